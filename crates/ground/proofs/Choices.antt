@@ -1,0 +1,51 @@
+-- A choice by a test of two numbers, from the fact that the code's own test gave: what `search` answers a definition by cases with.
+-- Assumes nothing.
+use Prim.Native.Nat.{ℕ, _≤_, _<_}
+use mathlib.Core.Path.{_≡_, refl, sym, ap, _∙_}
+use mathlib.Core.Bool.{Bool, true, false}
+use lib.Dec.{leb, ltb, eqb}
+use borrow.Author.Needs.{needs}
+use borrow.Author.Tests.{eq-eqb, ne-eqb, le-leb, lt-leb, lt-ltb, le-ltb}
+use Rattle.ground.specs.Choose.{pick}
+
+module _ {A : Type 0} (r x y : A) where
+  by-true : (t : Bool) → t ≡ true → r ≡ x → r ≡ pick t x y
+  by-true t e f = rw e f
+
+  by-false : (t : Bool) → t ≡ false → r ≡ y → r ≡ pick t x y
+  by-false t e f = rw e f
+
+  module _ (a b : ℕ) where
+    pub pick-eq : a ≡ b → r ≡ x → r ≡ pick (eqb a b) x y
+    pick-eq h = by-true (eqb a b) (eq-eqb a b h)
+
+    pub pick-ne : (a ≡ b → ⊥) → r ≡ y → r ≡ pick (eqb a b) x y
+    pick-ne h = by-false (eqb a b) (ne-eqb a b h)
+
+    -- where the code's test says that a is another number
+    pub pick-other : (k : ℕ) → a ≡ k → eqb k b ≡ false → r ≡ y → r ≡ pick (eqb a b) x y
+    pick-other k h e f = rw (h, e) f
+
+    pub pick-le : a ≤ b → r ≡ x → r ≡ pick (leb a b) x y
+    pick-le h = by-true (leb a b) (le-leb a b h)
+
+    pub pick-nle : b < a → r ≡ y → r ≡ pick (leb a b) x y
+    pick-nle h = by-false (leb a b) (lt-leb a b h)
+
+    pub pick-lt : a < b → r ≡ x → r ≡ pick (ltb a b) x y
+    pick-lt h = by-true (ltb a b) (lt-ltb a b h)
+
+    pub pick-nlt : b ≤ a → r ≡ y → r ≡ pick (ltb a b) x y
+    pick-nlt h = by-false (ltb a b) (le-ltb a b h)
+
+pub ruleset choices = (needs, pick-eq, pick-ne, pick-other, pick-le, pick-nle, pick-lt, pick-nlt)
+
+-- a choice between two equal things
+pub pick-same : {A : Type 0} (t : Bool) (x : A) → pick t x x ≡ x
+pick-same true x = refl
+pick-same false x = refl
+
+-- a caller that takes an answer f apart: f is what the callee's definition says, a, and it is the variant k. Listed with the caller's own
+-- definition g, as `via pieceOf`.
+pub via : {A B : Type 0} (g : A → B) (x : B) (f a k : A) → f ≡ a → f ≡ k → x ≡ g k → x ≡ g a
+via g x f a k p q e = e ∙ ap g (sym q ∙ p)

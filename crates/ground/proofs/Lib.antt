@@ -1,0 +1,3 @@
+pub mod Choices
+pub mod Lists
+pub mod First

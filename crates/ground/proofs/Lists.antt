@@ -1,0 +1,51 @@
+-- A list from a position on, a byte further. Assumes nothing.
+use Prim.Native.Nat.{ℕ, _+_, _-_, _≤_, _<_, max}
+use mathlib.Core.Path.{_≡_, ap, _∙_}
+use mathlib.Core.List.{List, [], _∷_}
+use native.Mathlib.Numerals.{add-one}
+use native.Mathlib.Omega.{arith}
+use native.Mathlib.Decide.{decLt}
+use lib.ListN.{length, getD, take, drop, drop-of-length-le, length-take, length-drop}
+use lib.Seq.{drop-cons, drop-length, take-nil}
+use lib.Dec.{ltb}
+use borrow.Author.Tests.{le-ltb, lt-ltb}
+use Rattle.ground.specs.Part.{part}
+use Rattle.ground.proofs.Choices.{pick-same}
+
+-- what is left at i is the byte at i and what is left at i + 1
+pub drop-next : (a : List ℕ) (i : ℕ) → i < length a → drop i a ≡ getD a i 0 ∷ drop (i + 1) a
+drop-next a i h = rw (add-one, drop-cons a i 0)
+
+-- nothing is left at the end or past it
+pub drop-done : (a : List ℕ) (i : ℕ) → length a ≤ i → drop i a ≡ []
+drop-done a i h = drop-of-length-le a h
+
+-- the part that starts at the end is empty
+pub at-end : (s : List ℕ) (n : ℕ) → take n (drop (length s) s) ≡ []
+at-end s n = ap (take n) (drop-length s) ∙ take-nil n
+
+module _ (s : List ℕ) (from to : ℕ) where
+  -- a span that lies in the slice
+  pub part-in : from ≤ to → to ≤ length s → part s from to ≡ take (to - from) (drop from s)
+  part-in h k = simp (le-ltb to from h, le-ltb (length s) to k)
+
+  -- one whose ends are in the wrong order, or that ends past the slice
+  pub part-crossed : to < from → part s from to ≡ []
+  part-crossed h = simp (lt-ltb to from h)
+
+  pub part-past : length s < to → part s from to ≡ []
+  part-past h = simp (lt-ltb (length s) to h) (pick-same (ltb to from) [])
+
+  pub part-length : from ≤ to → to ≤ length s → length (part s from to) ≡ to - from
+  part-length h k = ap length (part-in h k) ∙ simp (length-take, length-drop) (omega arith)
+
+  -- where a part ends lies within its span, whatever the span
+  pub part-end : from + length (part s from to) ≤ max from to
+  part-end =
+      elim (decLt to from) [
+        | yes h ↦ rw (part-crossed h) (omega arith)
+        | no h ↦ elim (decLt (length s) to) [
+          | yes k ↦ rw (part-past k) (omega arith)
+          | no k ↦ omega (arith, part-length (omega arith) (omega arith))
+        ]
+      ]

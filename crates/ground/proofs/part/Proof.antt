@@ -1,0 +1,21 @@
+-- `part` meets its contract: each return, by the tests that led there. Assumes nothing.
+use Rattle.ground.proofs.Choices.{choices}
+use Rattle.ground.proofs.Lists.{at-end}
+use Rattle.ground.proofs.part.Statement.{statement}
+use Rattle.ground.proofs.part.Tie as tie
+
+pub part-spec : {M : Type 1} → statement M
+part-spec =
+    tie.close
+    (tie.spec
+    (λ c. search choices)
+    (λ c. search choices)
+    (λ c. search choices)
+    (λ c. search (choices, at-end))
+    (λ c. search choices)
+    (λ c. search choices)
+    (λ c. search choices)
+    (λ c. search (choices, at-end))
+    (λ c. search choices)
+    (λ c. search choices)
+    (λ c. search choices))

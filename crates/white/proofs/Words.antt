@@ -1,0 +1,109 @@
+-- The definitions of specs/White say what its words say: each number is the least position with the property that the words name.
+-- Assumes nothing.
+use Prim.Native.Nat.{ℕ, zero, suc, _+_, _-_, _≤_, _<_}
+use mathlib.Core.Path.{_≡_, refl, sym, ap, _∙_, subst}
+use mathlib.Core.List.{List, [], _∷_}
+use mathlib.Core.Bool.{Bool, true, false, not}
+use mathlib.Core.Logic.{_⊎_, inl, inr, ⊎-elim}
+use native.Mathlib.Numerals.{add-one}
+use native.Mathlib.Omega.{arith}
+use native.Mathlib.Decide.{decLt}
+use lib.ListN.{length, getD, drop, length-drop}
+use lib.Seq.{getD-drop}
+use Rattle.ground.specs.Choose.{pick}
+use Rattle.ground.specs.Least.{Least}
+use Rattle.white.proofs.Runs.{kept-within}
+use Rattle.white.specs.White.{isWhite, notWhite, until, nameLen, pastWhite, keptOf, kept, NameEnds, WhiteFrom, NotWhiteAt}
+
+true≢false : {A : Type 0} (x : Bool) → x ≡ true → x ≡ false → A
+true≢false x e f = let z : _≡_ {A = ℕ} 0 1 = cc in absurd (omega arith)
+
+-- ---- the first byte that passes a test
+
+module _ (test : ℕ → Bool) where
+  -- there is one at `until`, or the bytes end there
+  until-at : (bs : List ℕ) → (until test bs ≡ length bs) ⊎ ((until test bs < length bs) × (test (getD bs (until test bs) 0) ≡ true))
+  unfolding until
+  until-at [] = inl refl
+  until-at (b ∷ bs) = by (test b) refl (until-at bs)
+    where
+      by : (x : Bool) → test b ≡ x → (until test bs ≡ length bs) ⊎ ((until test bs < length bs) × (test (getD bs (until test bs) 0) ≡ true))
+          → (pick x 0 (until test bs + 1) ≡ suc (length bs)) ⊎ ((pick x 0 (until test bs + 1) < suc (length bs)) × (test (getD (b ∷ bs) (pick x 0 (until test bs + 1)) 0) ≡ true))
+      by true e r = inr (omega arith, e)
+      by false e r =
+          ⊎-elim (λ h. inl (omega arith))
+          (λ h. inr (omega arith, ap (λ (n : ℕ). test (getD (b ∷ bs) n 0)) (add-one (until test bs)) ∙ h .1)) r
+
+  -- and none before
+  until-before : (bs : List ℕ) (k : ℕ) → k < until test bs → (k < length bs) × (test (getD bs k 0) ≡ false)
+  unfolding until
+  until-before [] k h = absurd (omega arith)
+  until-before (b ∷ bs) k h = by (test b) refl (until-before bs) k h
+    where
+      by : (x : Bool) → test b ≡ x → ((k : ℕ) → k < until test bs → (k < length bs) × (test (getD bs k 0) ≡ false))
+          → (k : ℕ) → k < pick x 0 (until test bs + 1) → (k < suc (length bs)) × (test (getD (b ∷ bs) k 0) ≡ false)
+      by true e r k h = absurd (omega arith)
+      by false e r zero h = (omega arith, e)
+      by false e r (suc k) h = let g = r k (omega arith) in (omega arith, g .1)
+
+-- the name length is the least position at which white space stands or the bytes end
+pub name-len-least : (bs : List ℕ) → Least (NameEnds bs) (nameLen bs)
+name-len-least bs =
+    record {
+      has = until-at isWhite bs;
+      before = λ k h. let g = until-before isWhite bs k h in ⊎-elim (λ e. omega arith) (λ w. true≢false _ (w .1) (g .1));
+    }
+
+-- skipping white space comes to the least position from `from` on at which no white space stands
+pub skip-least : (s : List ℕ) (from : ℕ) → Least (NotWhiteAt s from) (pastWhite s from)
+skip-least s from =
+    record {
+      has = (
+        omega arith,
+        λ h. ⊎-elim
+            (λ e. absurd (omega (arith, length-drop from s)))
+            (λ w. sym (ap notWhite (getD-drop from s (until notWhite (drop from s)) 0)) ∙ w .1)
+            (until-at notWhite (drop from s)),
+      );
+      before = λ k h p.
+          let g = until-before notWhite (drop from s) (k - from) (omega arith) in
+          true≢false _ (p .1 (omega (arith, length-drop from s)))
+          (ap (λ (n : ℕ). notWhite (getD s n 0)) (omega arith) ∙ sym (ap notWhite (getD-drop from s (k - from) 0)) ∙ g .1);
+    }
+
+-- ---- trailing white space
+
+-- of the first n bytes, those after the kept ones are white space
+kept-rest : (s : List ℕ) (n k : ℕ) → keptOf s n ≤ k → k < n → isWhite (getD s k 0) ≡ true
+unfolding keptOf
+kept-rest s zero k h l = absurd (omega arith)
+kept-rest s (suc n) k h l = by (isWhite (getD s n 0)) refl (kept-rest s n k) h
+  where
+    by : (x : Bool) → isWhite (getD s n 0) ≡ x → (keptOf s n ≤ k → k < n → isWhite (getD s k 0) ≡ true)
+        → pick x (keptOf s n) (suc n) ≤ k → isWhite (getD s k 0) ≡ true
+    by true e r h =
+        elim (decLt k n) [
+          | yes m ↦ r h m
+          | no m ↦ ap (λ (j : ℕ). isWhite (getD s j 0)) (omega arith) ∙ e
+        ]
+    by false e r h = absurd (omega arith)
+
+-- and the last kept one is not
+kept-last : (s : List ℕ) (n : ℕ) → 0 < keptOf s n → isWhite (getD s (keptOf s n - 1) 0) ≡ false
+unfolding keptOf
+kept-last s zero h = absurd (omega arith)
+kept-last s (suc n) h = by (isWhite (getD s n 0)) refl (kept-last s n) h
+  where
+    by : (x : Bool) → isWhite (getD s n 0) ≡ x → (0 < keptOf s n → isWhite (getD s (keptOf s n - 1) 0) ≡ false)
+        → 0 < pick x (keptOf s n) (suc n) → isWhite (getD s (pick x (keptOf s n) (suc n) - 1) 0) ≡ false
+    by true e r h = r h
+    by false e r h = ap (λ (j : ℕ). isWhite (getD s j 0)) (omega arith) ∙ e
+
+-- what is kept ends at the least position from which on only white space stands
+pub kept-least : (bs : List ℕ) → Least (WhiteFrom bs) (kept bs)
+kept-least bs =
+    record {
+      has = λ k h l. kept-rest bs (length bs) k h l;
+      before = λ k h w.
+          true≢false _ (w (kept bs - 1) (omega arith) (omega (arith, kept-within bs (length bs)))) (kept-last bs (length bs) (omega arith));
+    }
