@@ -3,6 +3,7 @@
 use Prim.Native.Nat.{ℕ, _≤_, _<_}
 use mathlib.Core.Path.{_≡_, refl, sym, ap, _∙_}
 use mathlib.Core.Bool.{Bool, true, false}
+use native.Mathlib.Omega.{arith}
 use lib.Dec.{leb, ltb, eqb}
 use borrow.Author.Needs.{needs}
 use borrow.Author.Tests.{eq-eqb, ne-eqb, le-leb, lt-leb, lt-ltb, le-ltb}
@@ -40,10 +41,19 @@ module _ {A : Type 0} (r x y : A) where
 
 pub ruleset choices = (needs, pick-eq, pick-ne, pick-other, pick-le, pick-nle, pick-lt, pick-nlt)
 
+-- no test says both
+pub clash : {A : Type 0} (t : Bool) → t ≡ true → t ≡ false → A
+clash t e f = let z : _≡_ {A = ℕ} 0 1 = cc in absurd (omega arith)
+
 -- a choice between two equal things
 pub pick-same : {A : Type 0} (t : Bool) (x : A) → pick t x x ≡ x
 pick-same true x = refl
 pick-same false x = refl
+
+-- what holds of either choice, with the test's outcome known, holds of the choice
+pub pick-cases : {A : Type 0} (M : A → Type 0) (t : Bool) (x y : A) → (t ≡ true → M x) → (t ≡ false → M y) → M (pick t x y)
+pick-cases M true x y f g = f refl
+pick-cases M false x y f g = g refl
 
 -- a caller that takes an answer f apart: f is what the callee's definition says, a, and it is the variant k. Listed with the caller's own
 -- definition g, as `via pieceOf`.

@@ -1,12 +1,12 @@
 -- A list from a position on, a byte further. Assumes nothing.
-use Prim.Native.Nat.{ℕ, _+_, _-_, _≤_, _<_, max}
+use Prim.Native.Nat.{ℕ, suc, _+_, _-_, _≤_, _<_, max}
 use mathlib.Core.Path.{_≡_, ap, _∙_}
-use mathlib.Core.List.{List, [], _∷_}
+use mathlib.Core.List.{List, [], _∷_, _++_}
 use native.Mathlib.Numerals.{add-one}
 use native.Mathlib.Omega.{arith}
 use native.Mathlib.Decide.{decLt}
 use lib.ListN.{length, getD, take, drop, drop-of-length-le, length-take, length-drop}
-use lib.Seq.{drop-cons, drop-length, take-nil}
+use lib.Seq.{drop-cons, drop-length, take-nil, take-suc, getD-drop}
 use lib.Dec.{ltb}
 use borrow.Author.Tests.{le-ltb, lt-ltb}
 use Rattle.ground.specs.Part.{part}
@@ -23,6 +23,16 @@ drop-done a i h = drop-of-length-le a h
 -- the part that starts at the end is empty
 pub at-end : (s : List ℕ) (n : ℕ) → take n (drop (length s) s) ≡ []
 at-end s n = ap (take n) (drop-length s) ∙ take-nil n
+
+-- the bytes from `from` up to i + 1 are those up to i and the byte at i
+pub take-next : (s : List ℕ) (from i : ℕ) → from ≤ i → i < length s
+    → take (i + 1 - from) (drop from s) ≡ take (i - from) (drop from s) ++ (getD s i 0 ∷ [])
+take-next s from i h k =
+    let up : i + 1 - from ≡ suc (i - from) = omega arith in
+    let back : from + (i - from) ≡ i = omega arith in
+    ap (λ (n : ℕ). take n (drop from s)) up
+    ∙ take-suc (drop from s) (i - from) 0 (omega (arith, length-drop from s))
+    ∙ ap (λ (b : ℕ). take (i - from) (drop from s) ++ (b ∷ [])) (getD-drop from s (i - from) 0 ∙ ap (λ (n : ℕ). getD s n 0) back)
 
 module _ (s : List ℕ) (from to : ℕ) where
   -- a span that lies in the slice

@@ -12,11 +12,9 @@ use lib.ListN.{length, getD, drop, length-drop}
 use lib.Seq.{getD-drop}
 use Rattle.ground.specs.Choose.{pick}
 use Rattle.ground.specs.Least.{Least}
+use Rattle.ground.proofs.Choices.{clash}
 use Rattle.white.proofs.Runs.{kept-within}
 use Rattle.white.specs.White.{isWhite, notWhite, until, nameLen, pastWhite, keptOf, kept, NameEnds, WhiteFrom, NotWhiteAt}
-
-true≢false : {A : Type 0} (x : Bool) → x ≡ true → x ≡ false → A
-true≢false x e f = let z : _≡_ {A = ℕ} 0 1 = cc in absurd (omega arith)
 
 -- ---- the first byte that passes a test
 
@@ -51,7 +49,7 @@ pub name-len-least : (bs : List ℕ) → Least (NameEnds bs) (nameLen bs)
 name-len-least bs =
     record {
       has = until-at isWhite bs;
-      before = λ k h. let g = until-before isWhite bs k h in ⊎-elim (λ e. omega arith) (λ w. true≢false _ (w .1) (g .1));
+      before = λ k h. let g = until-before isWhite bs k h in ⊎-elim (λ e. omega arith) (λ w. clash _ (w .1) (g .1));
     }
 
 -- skipping white space comes to the least position from `from` on at which no white space stands
@@ -67,7 +65,7 @@ skip-least s from =
       );
       before = λ k h p.
           let g = until-before notWhite (drop from s) (k - from) (omega arith) in
-          true≢false _ (p .1 (omega (arith, length-drop from s)))
+          clash _ (p .1 (omega (arith, length-drop from s)))
           (ap (λ (n : ℕ). notWhite (getD s n 0)) (omega arith) ∙ sym (ap notWhite (getD-drop from s (k - from) 0)) ∙ g .1);
     }
 
@@ -105,5 +103,5 @@ kept-least bs =
     record {
       has = λ k h l. kept-rest bs (length bs) k h l;
       before = λ k h w.
-          true≢false _ (w (kept bs - 1) (omega arith) (omega (arith, kept-within bs (length bs)))) (kept-last bs (length bs) (omega arith));
+          clash _ (w (kept bs - 1) (omega arith) (omega (arith, kept-within bs (length bs)))) (kept-last bs (length bs) (omega arith));
     }

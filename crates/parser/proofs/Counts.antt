@@ -1,0 +1,138 @@
+-- What the state of a scan for marks means at a position, and that each byte keeps it so: for any mark but `>`, any number of marks and any opener.
+-- Assumes nothing.
+use Prim.Native.Nat.{ℕ, zero, suc, _+_, _-_, _≤_, _<_}
+use mathlib.Core.Path.{_≡_, refl, sym, ap, _∙_}
+use mathlib.Core.List.{List}
+use mathlib.Core.Bool.{Bool, true, false}
+use mathlib.Core.Logic.{_⊎_, inl, inr, ⊎-elim}
+use native.Mathlib.Omega.{arith}
+use lib.ListN.{length, getD}
+use lib.Dec.{eqb, leb, ltb}
+use borrow.Author.Tests.{eqb-true, eqb-false, leb-true, leb-false, ltb-true, ltb-false}
+use Rattle.ground.proofs.Choices.{pick-cases}
+use Rattle.parser.specs.Machine.{Next, go, stop}
+use Rattle.parser.specs.Marks.{marksStep, seeing, passing, MarkedEnd}
+use Rattle.parser.specs.declared.marks.Marks.{Marks}
+use Rattle.parser.proofs.Outcome.{Meets}
+
+module _ (mark need opener : ℕ) (s : List ℕ) (from : ℕ) where
+  -- where the opener ends
+  abbrev start : ℕ
+  start = from + opener
+
+  -- the opener passes; then the `seen` bytes just before i are marks, and where fewer are seen than needed there is no further one
+  pub record Counts (m : Marks) (i : ℕ) : Type 0 where
+    pub room : start + m .seen ≤ i + m .left
+    pub in-opener : 0 < m .left → i + m .left ≤ start
+    pub marks : (j : ℕ) → 0 < j → j ≤ m .seen → getD s (i - j) 0 ≡ mark
+    pub no-more : m .left ≡ 0 → m .seen < need → (i ≡ start + m .seen) ⊎ (getD s (i - (m .seen + 1)) 0 ≡ mark → ⊥)
+
+  -- after a byte at i that is no mark, none is seen
+  none-seen : (i : ℕ) → start ≤ i → (getD s i 0 ≡ mark → ⊥) → Counts (seeing 0) (i + 1)
+  none-seen i h n =
+      record {
+        room = omega arith;
+        in-opener = λ z. omega arith;
+        marks = λ j z l. absurd (omega arith);
+        no-more = λ z l. inr (λ e. n (ap (λ (k : ℕ). getD s k 0) (here i) ∙ e));
+      }
+    where
+      here : (i : ℕ) → i ≡ i + 1 - (0 + 1)
+      here i = omega arith
+
+  -- after a mark at i, one more is, or as many as needed
+  marks-more : (i n : ℕ) → ((j : ℕ) → 0 < j → j ≤ n → getD s (i - j) 0 ≡ mark) → getD s i 0 ≡ mark
+      → (j : ℕ) → 0 < j → j ≤ n + 1 → getD s (i + 1 - j) 0 ≡ mark
+  marks-more i n old e zero z l = absurd (omega arith)
+  marks-more i n old e (suc zero) z l = ap (λ (k : ℕ). getD s k 0) (here i) ∙ e
+    where
+      here : (i : ℕ) → i + 1 - 1 ≡ i
+      here i = omega arith
+  marks-more i n old e (suc (suc j)) z l = ap (λ (k : ℕ). getD s k 0) (back i j) ∙ old (suc j) (omega arith) (omega arith)
+    where
+      back : (i j : ℕ) → i + 1 - suc (suc j) ≡ i - suc j
+      back i j = omega arith
+
+  module _ (other : mark ≡ 62 → ⊥) where
+    module _ (m : Marks) (i : ℕ) (c : Counts m i) (h : i < length s) where
+      abbrev Here : Next Marks → Type 0
+      Here = Meets (marksStep mark need) s (MarkedEnd mark need (opener + need) s from) Counts i
+
+      -- a byte of the opener
+      passes : (m .left ≡ 0 → ⊥) → Here (go (passing (m .left - 1)))
+      passes z =
+          let o = c .in-opener (omega arith) in (
+            λ p. omega (arith, p .after),
+            record {
+              room = omega (arith, c .room);
+              in-opener = λ l. omega arith;
+              marks = λ j y l. absurd (omega arith);
+              no-more = λ e l. inl (omega (arith, c .room));
+            },
+          )
+
+      module _ (e : m .left ≡ 0) where
+        -- a `>` with the marks that it needs, or without
+        stops : getD s i 0 ≡ 62 → need ≤ m .seen → Here stop
+        stops b l = record { after = omega (arith, c .room); within = h; closes = b; marks = λ j z k. c .marks j z (omega arith) }
+
+        goes : getD s i 0 ≡ 62 → m .seen < need → Here (go (seeing 0))
+        goes b l = (
+          λ p. ⊎-elim (λ k. omega (arith, p .after)) (λ n. n (p .marks (m .seen + 1) (omega arith) (omega arith))) (c .no-more e l),
+          none-seen i (omega (arith, c .room)) (λ x. other (sym x ∙ b)),
+        )
+
+        module _ (d : getD s i 0 ≡ 62 → ⊥) where
+          -- a mark, and fewer seen than needed, or enough
+          counts-one : getD s i 0 ≡ mark → m .seen < need → Here (go (seeing (m .seen + 1)))
+          counts-one b l = (
+            λ p. d (p .closes),
+            record {
+              room = omega (arith, c .room);
+              in-opener = λ z. absurd (omega arith);
+              marks = marks-more i (m .seen) (c .marks) b;
+              no-more = λ z k. ⊎-elim (λ x. inl (omega arith)) (λ n. inr (λ x. n (ap (λ (k : ℕ). getD s k 0) (back i (m .seen)) ∙ x))) (c .no-more e l);
+            },
+          )
+            where
+              back : (i n : ℕ) → i - (n + 1) ≡ i + 1 - (n + 1 + 1)
+              back i n = omega arith
+
+          enough : getD s i 0 ≡ mark → need ≤ m .seen → Here (go (seeing (m .seen)))
+          enough b l = (
+            λ p. d (p .closes),
+            record {
+              room = omega (arith, c .room);
+              in-opener = λ z. absurd (omega arith);
+              marks = λ j z k. marks-more i (m .seen) (c .marks) b j z (omega arith);
+              no-more = λ z k. absurd (omega arith);
+            },
+          )
+
+          -- any other byte
+          plain : (getD s i 0 ≡ mark → ⊥) → Here (go (seeing 0))
+          plain n = (λ p. d (p .closes), none-seen i (omega (arith, c .room)) n)
+
+      pub counts-meets : Here (marksStep mark need m (getD s i 0))
+      counts-meets =
+          pick-cases Here (eqb (m .left) 0) _ _
+          (λ z. let e = eqb-true (m .left) 0 z in
+          pick-cases Here (eqb (getD s i 0) 62) _ _
+          (λ x. let b = eqb-true (getD s i 0) 62 x in
+          pick-cases Here (leb need (m .seen)) _ _ (λ l. stops e b (leb-true _ _ l)) (λ l. goes e b (leb-false _ _ l)))
+          (λ x. let d = eqb-false (getD s i 0) 62 x in
+          pick-cases Here (eqb (getD s i 0) mark) _ _
+          (λ y. let b = eqb-true (getD s i 0) mark y in
+          pick-cases Here (ltb (m .seen) need) _ _ (λ l. counts-one e d b (ltb-true _ _ l)) (λ l. enough e d b (ltb-false _ _ l)))
+          (λ y. plain e d (eqb-false (getD s i 0) mark y))))
+          (λ z. passes (eqb-false (m .left) 0 z))
+
+  -- a fresh scan
+  pub counts-start : Counts (passing opener) from
+  counts-start =
+      record {
+        room = omega arith;
+        in-opener = λ z. omega arith;
+        marks = λ j z l. absurd (omega arith);
+        no-more = λ z l. inl (omega arith);
+      }

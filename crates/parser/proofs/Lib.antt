@@ -1,0 +1,6 @@
+pub mod Machine
+pub mod Turns
+pub mod Outcome
+pub mod Quotes
+pub mod Counts
+pub mod Words

@@ -1,0 +1,121 @@
+-- The turns and the ends of the scans' own loops, over plain variables. Assumes nothing.
+use Prim.Native.Nat.{ℕ, zero, suc, _+_, _-_, _≤_, _<_}
+use mathlib.Core.Path.{_≡_, refl, ap, ap₂, sym, _∙_}
+use mathlib.Core.List.{List}
+use mathlib.Core.Logic.{_⊎_, inl, inr, ⊎-elim}
+use lib.ListN.{length, getD}
+use native.Mathlib.Omega.{arith}
+use mathlib.Core.Bool.{Bool, true, false}
+use borrow.Author.Needs.{needs}
+use borrow.Author.Tests.{ne-eqb}
+use Rattle.parser.specs.Machine.{Next, go, stop, Scan, found, going, scanAt}
+use Rattle.parser.specs.Element.{elementStep, elementAnswer, elementFound, quoteOf, IsQuote}
+use Rattle.parser.specs.declared.element.ElementState.{ElementState}
+use Rattle.parser.specs.declared.element.ElementState.the-variants.{Outside}
+use Rattle.parser.specs.declared.element.Found.the-variants.{At, Open}
+use Rattle.parser.specs.First.{firstStep, firstAnswer, firstFound}
+use Rattle.parser.specs.declared.first.Found.the-variants as First
+use Rattle.parser.specs.Marks.{marksStep, marksAnswer, marksFound, seeing, passing}
+use Rattle.parser.specs.declared.marks.Marks.{Marks}
+use Rattle.parser.specs.declared.marks.Found.{Found}
+use Rattle.parser.specs.declared.marks.Found.the-variants as Marked
+use Rattle.ground.proofs.Choices.{choices}
+use Rattle.parser.proofs.Machine.{scan-end, scan-more, scan-stop}
+
+-- ---- what each class of byte does to a tag's scan
+
+pub step-stop : (b : ℕ) → b ≡ 62 → elementStep Outside b ≡ stop
+step-stop b e = rw e
+
+pub step-quote : (b : ℕ) → IsQuote b → elementStep Outside b ≡ go (quoteOf b)
+step-quote b q = ⊎-elim (λ e. rw e) (λ e. rw e) q
+
+pub step-plain : (b : ℕ) → (b ≡ 62 → ⊥) → (IsQuote b → ⊥) → elementStep Outside b ≡ go Outside
+step-plain b p q = simp (ne-eqb b 62 p, ne-eqb b 34 (λ e. q (inl e)), ne-eqb b 39 (λ e. q (inr e)))
+
+pub step-close : (q b : ℕ) → IsQuote q → b ≡ q → elementStep (quoteOf q) b ≡ go Outside
+step-close q b h e = rw e (⊎-elim (λ e. rw e) (λ e. rw e) h)
+
+pub step-within : (q b : ℕ) → IsQuote q → (b ≡ q → ⊥) → elementStep (quoteOf q) b ≡ go (quoteOf q)
+step-within q b h n =
+    ⊎-elim (λ e. rw e (simp (ne-eqb b 34 (rw e at n)))) (λ e. rw e (simp (ne-eqb b 39 (rw e at n)))) h
+
+-- ---- the loops of `element_end`: the state is Outside in the outer one and quoteOf b in the inner one
+
+module _ (s : List ℕ) (r : Scan ElementState) (i : ℕ) where
+  pub turn-plain : r ≡ scanAt elementStep Outside s i → i < length s → (getD s i 0 ≡ 62 → ⊥) → (IsQuote (getD s i 0) → ⊥)
+      → r ≡ scanAt elementStep Outside s (i + 1)
+  turn-plain v h p q = v ∙ scan-more elementStep Outside s i Outside h (step-plain (getD s i 0) p q)
+
+  pub turn-quote : r ≡ scanAt elementStep Outside s i → i < length s → IsQuote (getD s i 0)
+      → r ≡ scanAt elementStep (quoteOf (getD s i 0)) s (i + 1)
+  turn-quote v h q = v ∙ scan-more elementStep Outside s i (quoteOf (getD s i 0)) h (step-quote (getD s i 0) q)
+
+  pub end-outside : r ≡ scanAt elementStep Outside s i → length s ≤ i → Open Outside ≡ elementAnswer r
+  end-outside v h = sym (ap elementAnswer (v ∙ scan-end elementStep Outside s i h))
+
+  pub end-found : r ≡ scanAt elementStep Outside s i → i < length s → getD s i 0 ≡ 62 → At i ≡ elementAnswer r
+  end-found v h e = sym (ap elementAnswer (v ∙ scan-stop elementStep Outside s i h (step-stop (getD s i 0) e)))
+
+  module _ (b : ℕ) (v : r ≡ scanAt elementStep (quoteOf b) s i) where
+    pub turn-close : i < length s → IsQuote b → getD s i 0 ≡ b → r ≡ scanAt elementStep Outside s (i + 1)
+    turn-close h q e = v ∙ scan-more elementStep (quoteOf b) s i Outside h (step-close b (getD s i 0) q e)
+
+    pub turn-within : i < length s → IsQuote b → (getD s i 0 ≡ b → ⊥) → r ≡ scanAt elementStep (quoteOf b) s (i + 1)
+    turn-within h q n = v ∙ scan-more elementStep (quoteOf b) s i (quoteOf b) h (step-within b (getD s i 0) q n)
+
+    pub end-within : (t : ElementState) → length s ≤ i → t ≡ quoteOf b → Open t ≡ elementAnswer r
+    end-within t h e = ap Open e ∙ sym (ap elementAnswer (v ∙ scan-end elementStep (quoteOf b) s i h))
+
+pub ruleset tag-turns = (needs, turn-plain, turn-quote, turn-close, turn-within, end-outside, end-found, end-within)
+
+-- ---- the loops that look for the first byte of a kind
+
+module _ (test : ℕ → Bool) (s : List ℕ) (r : Scan (Unit {0})) (i : ℕ) (v : r ≡ scanAt (firstStep test) tt s i) where
+  pub first-turn : i < length s → false ≡ test (getD s i 0) → r ≡ scanAt (firstStep test) tt s (i + 1)
+  first-turn h e = v ∙ scan-more (firstStep test) tt s i tt h (rw (← e))
+
+  pub first-here : i < length s → true ≡ test (getD s i 0) → First.At i ≡ firstAnswer r
+  first-here h e = sym (ap firstAnswer (v ∙ scan-stop (firstStep test) tt s i h (rw (← e))))
+
+  pub first-end : length s ≤ i → First.End ≡ firstAnswer r
+  first-end h = sym (ap firstAnswer (v ∙ scan-end (firstStep test) tt s i h))
+
+-- a place at or past the end
+pub first-past : (test : ℕ → Bool) (s : List ℕ) (from : ℕ) → length s ≤ from → First.End ≡ firstFound test s (from + 1)
+first-past test s from h = first-end test s _ (from + 1) refl (omega arith)
+
+pub ruleset first-turns = (choices, first-turn, first-here, first-end, first-past)
+
+-- ---- the opener of a piece that ends in marks
+
+module _ (mark need : ℕ) (s : List ℕ) where
+  abbrev From : ℕ → ℕ → Scan Marks
+  From n i = scanAt (marksStep mark need) (passing n) s i
+
+  pass-one : (n i : ℕ) → 0 < n → i < length s → From n i ≡ From (n - 1) (i + 1)
+  pass-one n i h l = scan-more (marksStep mark need) (passing n) s i (passing (n - 1)) l (rw (ne-eqb n 0 (λ e. omega arith)))
+
+  -- k bytes of it
+  pass : (k n i : ℕ) → k ≤ n → i + k ≤ length s → From n i ≡ From (n - k) (i + k)
+  pass zero n i h l = ap₂ From (omega arith) (omega arith)
+  pass (suc k) n i h l =
+      pass-one n i (omega arith) (omega arith) ∙ pass k (n - 1) (i + 1) (omega arith) (omega arith) ∙ ap₂ From (omega arith) (omega arith)
+
+  module _ (n i : ℕ) where
+    -- a piece that starts at the end or past it
+    pub opener-none : length s ≤ i → Marked.Open (passing n) ≡ marksFound n mark need s i
+    opener-none h = sym (ap marksAnswer (scan-end (marksStep mark need) (passing n) s i h))
+
+    -- one that ends within its opener
+    pub opener-part : i < length s → length s - i < n → Marked.Open (passing (n - (length s - i))) ≡ marksFound n mark need s i
+    opener-part h l =
+        sym (ap marksAnswer (pass (length s - i) n i (omega arith) (omega arith)
+        ∙ scan-end (marksStep mark need) (passing (n - (length s - i))) s (i + (length s - i)) (omega arith)))
+
+    -- one that has bytes after it
+    pub opener-past : (r : Found) → i < length s → n ≤ length s - i
+        → r ≡ marksAnswer (scanAt (marksStep mark need) (seeing 0) s (i + n)) → r ≡ marksFound n mark need s i
+    opener-past r h l e = e ∙ sym (ap marksAnswer (pass n n i (omega arith) (omega arith) ∙ ap (λ (k : ℕ). From k (i + n)) (omega arith)))
+
+pub ruleset opener-turns = (needs, opener-none, opener-part, opener-past)

@@ -1,0 +1,185 @@
+-- Each scan in the words of document 01: it answers "at p" exactly when p is the least position with the stated property, and otherwise exactly when there
+-- is none. Assumes nothing.
+use Prim.Native.Nat.{ℕ, zero, suc, _+_, _-_, _≤_, _<_}
+use mathlib.Core.Path.{_≡_, refl, sym, ap, _∙_, subst}
+use mathlib.Core.List.{List, [], _∷_, _++_}
+use mathlib.Core.Bool.{Bool, true, false}
+use mathlib.Core.Logic.{_↔_, _⊎_, inl, inr, ⊎-elim}
+use native.Mathlib.Omega.{arith}
+use lib.ListN.{length, getD, take, drop, length-drop}
+use lib.Seq.{take-all}
+use lib.Dec.{eqb}
+use borrow.Author.Tests.{eqb-true, eqb-false, eq-eqb}
+use Rattle.ground.specs.Choose.{pick}
+use Rattle.ground.specs.Least.{Least, Nowhere, Gives}
+use Rattle.ground.proofs.Choices.{pick-cases, clash}
+use Rattle.ground.proofs.Lists.{part-in, take-next}
+use Rattle.parser.specs.Machine.{Next, go, stop, Scan, found, going, scanAt}
+use Rattle.parser.specs.Element.{elementStep, elementAnswer, elementFound, IsQuote, OutsideQuotes, at-first, plain, WithinQuote, LeavesIn, TagEnd}
+use Rattle.parser.specs.Marks.{marksStep, marksAnswer, marksFound, piFound, commentFound, cdataFound, passing, MarkedEnd, PiEnd, CommentEnd, CDataEnd}
+use Rattle.parser.specs.First.{firstStep, firstAnswer, firstFound, oneOf, textEnds, textFound, referenceEnds, referenceFound, Among, ByteAmong, TextEnd, ReferenceEnd}
+use Rattle.parser.specs.declared.element.ElementState.{ElementState}
+use Rattle.parser.specs.declared.element.ElementState.the-variants.{Outside, SingleQ, DoubleQ}
+use Rattle.parser.specs.declared.element.Found.the-variants.{At, Open}
+use Rattle.parser.specs.declared.marks.Marks.{Marks}
+use Rattle.parser.specs.declared.marks.Found.the-variants.{At as MarkedAt, Open as MarkedOpen}
+use Rattle.parser.specs.declared.first.Found.the-variants.{At as FirstAt, End}
+use Rattle.parser.proofs.Outcome.{Meets, Tells, tells, tells-gives}
+use Rattle.parser.proofs.Quotes.{opens, closes, stays, leaves-one}
+use Rattle.parser.proofs.Counts.{Counts, counts-meets, counts-start}
+
+-- ---- tags
+
+module _ (s : List ℕ) (from : ℕ) where
+  -- the bytes that the scan has passed at i
+  abbrev passed : ℕ → List ℕ
+  passed i = take (i - from) (drop from s)
+
+  abbrev Means : ElementState → ℕ → Type 0
+  Means q i = (from ≤ i) × LeavesIn q (passed i)
+
+  module _ (i : ℕ) (h : i < length s) (f : from ≤ i) where
+    abbrev Here : Next ElementState → Type 0
+    Here = Meets elementStep s (TagEnd s from) Means i
+
+    abbrev b : ℕ
+    b = getD s i 0
+
+    next : (t : ElementState) → LeavesIn t (passed i ++ (b ∷ [])) → Means t (i + 1)
+    next t x = (omega arith, subst (LeavesIn t) (sym (take-next s from i f h)) x)
+
+    outside-meets : OutsideQuotes (passed i) → Here (elementStep Outside b)
+    outside-meets o =
+        pick-cases Here (eqb b 62) _ _
+        (λ x. record { after = f; within = h; closes = eqb-true b 62 x; outside = subst OutsideQuotes (sym (part-in s from i f (omega arith))) o })
+        (λ x. let no-end : TagEnd s from i → ⊥ = λ p. eqb-false b 62 x (p .closes) in
+        pick-cases Here (eqb b 39) _ _
+        (λ y. (no-end, next SingleQ (opened-by 39 (eqb-true b 39 y))))
+        (λ y. pick-cases Here (eqb b 34) _ _
+        (λ z. (no-end, next DoubleQ (opened-by 34 (eqb-true b 34 z))))
+        (λ z. (no-end, next Outside (plain o (⊎-elim (eqb-false b 34 z) (eqb-false b 39 y)))))))
+      where
+        opened-by : (q : ℕ) → b ≡ q → WithinQuote q (passed i ++ (b ∷ []))
+        opened-by q e = subst (λ (x : ℕ). WithinQuote q (passed i ++ (x ∷ []))) (sym e) (opens q (passed i) o)
+
+    -- within a quote q, whose state is t
+    module _ (q : ℕ) (t : ElementState) (a-quote : IsQuote q) (other : q ≡ 62 → ⊥) (not-out : t ≡ Outside → ⊥)
+        (is : (bs : List ℕ) → WithinQuote q bs → LeavesIn t bs) (w : WithinQuote q (passed i)) where
+      within-meets : Here (pick (eqb b q) (go Outside) (go t))
+      within-meets =
+          pick-cases Here (eqb b q) _ _
+          (λ x. let e = eqb-true b q x in (
+            λ p. other (sym e ∙ p .closes),
+            next Outside (subst (λ (x : ℕ). OutsideQuotes (passed i ++ (x ∷ []))) (sym e) (closes q (passed i) a-quote w)),
+          ))
+          (λ x. (
+            λ p. not-out (leaves-one t Outside (passed i) (is (passed i) w) (subst OutsideQuotes (part-in s from i f (omega arith)) (p .outside))),
+            next t (is _ (stays q b (passed i) (eqb-false b q x) w)),
+          ))
+
+  apart-single : SingleQ ≡ Outside → ⊥
+  apart-single e = let z : _≡_ {A = ℕ} 0 1 = cc in omega arith
+
+  apart-double : DoubleQ ≡ Outside → ⊥
+  apart-double e = let z : _≡_ {A = ℕ} 0 1 = cc in omega arith
+
+  element-meets : (q : ElementState) (i : ℕ) → Means q i → i < length s → Meets elementStep s (TagEnd s from) Means i (elementStep q (getD s i 0))
+  element-meets Outside i m h = outside-meets i h (m .0) (m .1)
+  element-meets SingleQ i m h = within-meets i h (m .0) 39 SingleQ (inr refl) (λ e. omega arith) apart-single (λ bs w. w) (m .1)
+  element-meets DoubleQ i m h = within-meets i h (m .0) 34 DoubleQ (inl refl) (λ e. omega arith) apart-double (λ bs w. w) (m .1)
+
+  element-tells : Tells elementStep s (TagEnd s from) Means (scanAt elementStep Outside s from)
+  element-tells =
+      tells elementStep s (TagEnd s from) Means (λ p q. q .within) element-meets Outside from
+      (omega arith, subst (λ (n : ℕ). OutsideQuotes (take n (drop from s))) none at-first) (λ k h p. omega (arith, p .after))
+    where
+      none : 0 ≡ from - from
+      none = omega arith
+
+  -- the first `>` outside quotes
+  pub element-gives : Gives At (elementFound s from) (TagEnd s from)
+  element-gives =
+      tells-gives elementStep s (TagEnd s from) Means elementAnswer (λ p q e. cc) (λ t p e. let z : _≡_ {A = ℕ} 0 1 = cc in omega arith)
+      (scanAt elementStep Outside s from) element-tells
+
+  -- the bytes end with none: outside quotes, within `'` or within `"`
+  pub element-open : (q : ElementState) → (elementFound s from ≡ Open q) ↔ (Nowhere (TagEnd s from) × LeavesIn q (drop from s))
+  element-open q = by (scanAt elementStep Outside s from) element-tells
+    where
+      by : (r : Scan ElementState) → Tells elementStep s (TagEnd s from) Means r
+          → (elementAnswer r ≡ Open q) ↔ (Nowhere (TagEnd s from) × LeavesIn q (drop from s))
+      by (found p) l = (λ e. let z : _≡_ {A = ℕ} 0 1 = cc in absurd (omega arith), λ w. absurd (w .0 p (l .has)))
+      by (going t) w =
+          let whole = take-all (w .1 .0 - from) (drop from s) (omega (arith, w .1 .1, length-drop from s)) in
+          let left = subst (LeavesIn t) whole (w .1 .2 .1) in (
+            λ e. let same : t ≡ q = cc in (w .0, subst (λ (x : ElementState). LeavesIn x (drop from s)) same left),
+            λ v. ap Open (leaves-one t q (drop from s) left (v .1)),
+          )
+
+-- ---- processing instructions, comments and CDATA
+
+module _ (s : List ℕ) (from : ℕ) where
+  marks-gives : (opener mark need : ℕ) → (mark ≡ 62 → ⊥)
+      → Gives MarkedAt (marksFound opener mark need s from) (MarkedEnd mark need (opener + need) s from)
+  marks-gives opener mark need other =
+      let P = MarkedEnd mark need (opener + need) s from in
+      let C = Counts mark need opener s from in
+      tells-gives (marksStep mark need) s P C marksAnswer (λ p q e. cc) (λ t p e. let z : _≡_ {A = ℕ} 0 1 = cc in omega arith)
+      (scanAt (marksStep mark need) (passing opener) s from)
+      (tells (marksStep mark need) s P C (λ p q. q .within) (counts-meets mark need opener s from other) (passing opener) from
+      (counts-start mark need opener s from) (λ k h p. omega (arith, p .after)))
+
+  -- the first `>` with a `?` just before
+  pub pi-gives : Gives MarkedAt (piFound s from) (PiEnd s from)
+  pi-gives = marks-gives 0 63 1 (λ e. omega arith)
+
+  -- the first `>` at offset 6 or more with `--` just before
+  pub comment-gives : Gives MarkedAt (commentFound s from) (CommentEnd s from)
+  comment-gives = marks-gives 4 45 2 (λ e. omega arith)
+
+  -- the first `>` with `]]` just before
+  pub cdata-gives : Gives MarkedAt (cdataFound s from) (CDataEnd s from)
+  cdata-gives = marks-gives 0 93 2 (λ e. omega arith)
+
+-- ---- text and references
+
+-- the test of a byte says whether it is among those listed
+one-of : (ks : List ℕ) (b : ℕ) → oneOf ks b ≡ true → Among ks b
+one-of [] b e = clash false e refl
+one-of (k ∷ ks) b e = by (eqb b k) refl e (one-of ks b)
+  where
+    by : (x : Bool) → eqb b k ≡ x → pick x true (oneOf ks b) ≡ true → (oneOf ks b ≡ true → Among ks b) → (b ≡ k) ⊎ Among ks b
+    by true q e r = inl (eqb-true b k q)
+    by false q e r = inr (r e)
+
+not-one-of : (ks : List ℕ) (b : ℕ) → oneOf ks b ≡ false → Among ks b → ⊥
+not-one-of [] b e a = a
+not-one-of (k ∷ ks) b e a = by (eqb b k) refl e (not-one-of ks b) a
+  where
+    by : (x : Bool) → eqb b k ≡ x → pick x true (oneOf ks b) ≡ false → (oneOf ks b ≡ false → Among ks b → ⊥) → (b ≡ k) ⊎ Among ks b → ⊥
+    by true q e r = clash true refl e
+    by false q e r = ⊎-elim (eqb-false b k q) (r e)
+
+module _ (ks s : List ℕ) (from : ℕ) where
+  abbrev From : Unit {0} → ℕ → Type 0
+  From u i = from ≤ i
+
+  first-meets : (u : Unit {0}) (i : ℕ) → From u i → i < length s → Meets (firstStep (oneOf ks)) s (ByteAmong ks s from) From i (firstStep (oneOf ks) u (getD s i 0))
+  first-meets u i m h =
+      pick-cases (Meets (firstStep (oneOf ks)) s (ByteAmong ks s from) From i) (oneOf ks (getD s i 0)) _ _
+      (λ x. record { after = m; within = h; among = one-of ks (getD s i 0) x })
+      (λ x. (λ p. not-one-of ks (getD s i 0) x (p .among), omega arith))
+
+  first-gives : Gives FirstAt (firstFound (oneOf ks) s from) (ByteAmong ks s from)
+  first-gives =
+      tells-gives (firstStep (oneOf ks)) s (ByteAmong ks s from) From firstAnswer (λ p q e. cc) (λ t p e. let z : _≡_ {A = ℕ} 0 1 = cc in omega arith)
+      (scanAt (firstStep (oneOf ks)) tt s from)
+      (tells (firstStep (oneOf ks)) s (ByteAmong ks s from) From (λ p q. q .within) first-meets tt from (omega arith) (λ k h p. omega (arith, p .after)))
+
+-- the first `<` or `&`
+pub text-gives : (s : List ℕ) (from : ℕ) → Gives FirstAt (textFound s from) (TextEnd s from)
+text-gives s from = first-gives textEnds s from
+
+-- the first of `;`, `&`, `<` after the `&` at `from`
+pub reference-gives : (s : List ℕ) (from : ℕ) → Gives FirstAt (referenceFound s from) (ReferenceEnd s from)
+reference-gives s from = first-gives referenceEnds s (from + 1)

@@ -1,0 +1,65 @@
+-- The scan of a tag: the first `>` outside quotes (document 01, "Markup").
+use Prim.Native.Nat.{ℕ, _≤_, _<_}
+use mathlib.Core.Path.{_≡_}
+use mathlib.Core.List.{List, [], _∷_, _++_}
+use mathlib.Core.Logic.{_⊎_}
+use lib.ListN.{length, getD}
+use lib.Dec.{eqb}
+use Rattle.ground.specs.Choose.{pick}
+use Rattle.ground.specs.Part.{part}
+use Rattle.parser.specs.Machine.{Next, go, stop, Scan, found, going, scanAt}
+use Rattle.parser.specs.declared.element.ElementState.{ElementState}
+use Rattle.parser.specs.declared.element.ElementState.the-variants.{Outside, SingleQ, DoubleQ}
+use Rattle.parser.specs.declared.element.Found.{Found}
+use Rattle.parser.specs.declared.element.Found.the-variants.{At, Open}
+
+-- outside quotes `>` stops the scan and a quote opens; within a quote only the same quote counts, and closes it
+abbrev pub elementStep : ElementState → ℕ → Next ElementState
+elementStep Outside b = pick (eqb b 62) stop (pick (eqb b 39) (go SingleQ) (pick (eqb b 34) (go DoubleQ) (go Outside)))
+elementStep SingleQ b = pick (eqb b 39) (go Outside) (go SingleQ)
+elementStep DoubleQ b = pick (eqb b 34) (go Outside) (go DoubleQ)
+
+abbrev pub elementAnswer : Scan ElementState → Found
+elementAnswer (found p) = At p
+elementAnswer (going q) = Open q
+
+abbrev pub elementFound : List ℕ → ℕ → Found
+elementFound s from = elementAnswer (scanAt elementStep Outside s from)
+
+-- the state within a quote that b opened
+abbrev pub quoteOf : ℕ → ElementState
+quoteOf b = pick (eqb b 39) SingleQ DoubleQ
+
+-- ---- the same in words
+
+-- `'` or `"`
+abbrev pub IsQuote : ℕ → Type 0
+IsQuote b = (b ≡ 34) ⊎ (b ≡ 39)
+
+-- no byte of the list is q
+abbrev pub Without : ℕ → List ℕ → Type 0
+Without q [] = Unit {0}
+Without q (b ∷ bs) = (b ≡ q → ⊥) × Without q bs
+
+-- bytes that leave one outside quotes: none; or such bytes and a byte that is no quote; or such bytes, a quote, bytes without that quote, and that quote
+pub data OutsideQuotes : List ℕ → Type 0 where
+  at-first : OutsideQuotes []
+  plain : {bs : List ℕ} {b : ℕ} → OutsideQuotes bs → (IsQuote b → ⊥) → OutsideQuotes (bs ++ (b ∷ []))
+  quoted : {bs : List ℕ} {q : ℕ} (xs : List ℕ) → OutsideQuotes bs → IsQuote q → Without q xs → OutsideQuotes (bs ++ (q ∷ (xs ++ (q ∷ []))))
+
+-- bytes that leave one within a quote q: bytes that leave one outside, q, and bytes without q
+pub data WithinQuote (q : ℕ) : List ℕ → Type 0 where
+  opened : {bs : List ℕ} (xs : List ℕ) → OutsideQuotes bs → Without q xs → WithinQuote q (bs ++ (q ∷ xs))
+
+-- where bytes leave one, for each state
+abbrev pub LeavesIn : ElementState → List ℕ → Type 0
+LeavesIn Outside bs = OutsideQuotes bs
+LeavesIn SingleQ bs = WithinQuote 39 bs
+LeavesIn DoubleQ bs = WithinQuote 34 bs
+
+-- at p stands a `>` outside quotes, which are counted from `from` on
+pub record TagEnd (s : List ℕ) (from p : ℕ) : Type 0 where
+  pub after : from ≤ p
+  pub within : p < length s
+  pub closes : getD s p 0 ≡ 62
+  pub outside : OutsideQuotes (part s from p)

@@ -1,0 +1,4 @@
+pub mod Machine
+pub mod Element
+pub mod Marks
+pub mod First

@@ -1,0 +1,68 @@
+-- The scans of processing instructions, comments and CDATA: the first `>` with its marks, `?`, `--` or `]]`, just before (document 01, "Markup").
+use Prim.Native.Nat.{ℕ, _+_, _-_, _≤_, _<_}
+use mathlib.Core.Path.{_≡_}
+use mathlib.Core.List.{List}
+use lib.ListN.{length, getD}
+use lib.Dec.{eqb, leb, ltb}
+use Rattle.ground.specs.Choose.{pick}
+use Rattle.parser.specs.Machine.{Next, go, stop, Scan, found, going, scanAt}
+use Rattle.parser.specs.declared.marks.Marks.{Marks}
+use Rattle.parser.specs.declared.marks.Found.{Found}
+use Rattle.parser.specs.declared.marks.Found.the-variants.{At, Open}
+
+-- n marks stand just before, the opener being past
+abbrev pub seeing : ℕ → Marks
+seeing n = record { left = 0; seen = n }
+
+-- `left` bytes of the opener are yet to pass
+abbrev pub passing : ℕ → Marks
+passing n = record { left = n; seen = 0 }
+
+-- the bytes of the opener pass; then marks are counted, up to `need`, and `>` stops the scan where there are as many
+abbrev pub marksStep : ℕ → ℕ → Marks → ℕ → Next Marks
+marksStep mark need m b =
+    pick (eqb (m .left) 0)
+    (pick (eqb b 62) (pick (leb need (m .seen)) stop (go (seeing 0)))
+    (pick (eqb b mark) (pick (ltb (m .seen) need) (go (seeing (m .seen + 1))) (go (seeing (m .seen)))) (go (seeing 0))))
+    (go (passing (m .left - 1)))
+
+abbrev pub marksAnswer : Scan Marks → Found
+marksAnswer (found p) = At p
+marksAnswer (going m) = Open m
+
+-- a piece that starts at `from` with an opener of `opener` bytes
+abbrev pub marksFound : ℕ → ℕ → ℕ → List ℕ → ℕ → Found
+marksFound opener mark need s from = marksAnswer (scanAt (marksStep mark need) (passing opener) s from)
+
+-- a `?`
+abbrev pub piFound : List ℕ → ℕ → Found
+piFound = marksFound 0 63 1
+
+-- `--`, of which no byte belongs to the opener `<!--`
+abbrev pub commentFound : List ℕ → ℕ → Found
+commentFound = marksFound 4 45 2
+
+-- `]]`
+abbrev pub cdataFound : List ℕ → ℕ → Found
+cdataFound = marksFound 0 93 2
+
+-- ---- the same in words
+
+-- at p stands a `>`, at offset `least` or more of the piece that starts at `from`, and the `need` bytes just before it are marks
+pub record MarkedEnd (mark need least : ℕ) (s : List ℕ) (from p : ℕ) : Type 0 where
+  pub after : from + least ≤ p
+  pub within : p < length s
+  pub closes : getD s p 0 ≡ 62
+  pub marks : (j : ℕ) → 0 < j → j ≤ need → getD s (p - j) 0 ≡ mark
+
+-- "the first `>` with a `?` just before"
+abbrev pub PiEnd : List ℕ → ℕ → ℕ → Type 0
+PiEnd = MarkedEnd 63 1 1
+
+-- "the first `>` at offset 6 or more with `--` just before"
+abbrev pub CommentEnd : List ℕ → ℕ → ℕ → Type 0
+CommentEnd = MarkedEnd 45 2 6
+
+-- "the first `>` with `]]` just before"
+abbrev pub CDataEnd : List ℕ → ℕ → ℕ → Type 0
+CDataEnd = MarkedEnd 93 2 2
