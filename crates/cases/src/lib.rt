@@ -1,0 +1,127 @@
+// A case of a program that runs cases: the parts of its line, and how an answer is written behind it.
+use libc::STDOUT_FILENO;
+ghost use Prim.Native.Nat.{_+_, _<_, _≤_, min};
+ghost use lib.ListN.{length};
+ghost use Rattle.io.specs.Counts.{Counts};
+
+// The first position from `from` on with the byte b, or the end.
+pub fn find(s: &[u8], from: usize, b: u8) -> usize
+    ensures { λ r. ⌜ (min from (length (now (s .entry))) ≤ r) × (r ≤ length (now (s .entry))) ⌝ }
+{
+    let mut i = from;
+    loop {
+        if s.len() <= i {
+            break s.len();
+        }
+        if s[i] == b {
+            break i;
+        }
+        i += 1;
+    }
+}
+
+// A number, and where it ended.
+pub struct Read {
+    pub value: usize,
+    pub next: usize,
+}
+
+// The decimal number after the space at `from`, and the position of the space after it, or the end. A number that is too large for 64 bits is the
+// largest that is not; one with no digit is 0.
+pub fn number(s: &[u8], from: usize) -> Read {
+    let mut value = 0;
+    let mut i = from;
+    while i < s.len() {
+        i += 1;
+        if s.len() <= i {
+            break;
+        }
+        let b = s[i];
+        if b == b' ' {
+            break;
+        }
+        value = with_digit(value, b);
+    }
+    Read { value, next: i }
+}
+
+fn with_digit(value: usize, b: u8) -> usize {
+    let digit = digit_of(b);
+    if 1_844_674_407_370_955_160 < value {
+        return 18_446_744_073_709_551_615;
+    }
+    let tens = value * 10;
+    if 18_446_744_073_709_551_615 - tens < digit {
+        return 18_446_744_073_709_551_615;
+    }
+    tens + digit
+}
+
+// What a digit stands for; 0 for any other byte.
+fn digit_of(b: u8) -> usize
+    ensures { λ r. ⌜ r ≤ 15 ⌝ }
+{
+    match b {
+        b'0'..=b'9' => (b - b'0') as usize,
+        b'A'..=b'F' => (b - b'A') as usize + 10,
+        _ => 0,
+    }
+}
+
+// Puts the bytes that stand after the space at `from` into `out`, as far as it goes, and answers how many there are.
+pub fn bytes(s: &[u8], from: usize, out: &mut [u8]) -> usize
+    ensures { λ r. ⌜ Counts r (now (out .exit)) ⌝ }
+{
+    let mut i = from;
+    let mut n = 0;
+    while n < out.len() {
+        if s.len() <= i {
+            break;
+        }
+        i += 1;
+        if s.len() <= i {
+            break;
+        }
+        out[n] = byte(s, i);
+        n += 1;
+        i += digits_after(s, i);
+    }
+    n
+}
+
+// How many digits stand after the byte at `at`: two after `\`, where there are as many bytes.
+fn digits_after(s: &[u8], at: usize) -> usize
+    requires { ⌜ at < length (now s) ⌝ }
+    ensures { λ r. ⌜ at + r < length (now (s .entry)) ⌝ }
+{
+    if s[at] != b'\\' {
+        return 0;
+    }
+    if s.len() - at <= 2 {
+        return 0;
+    }
+    2
+}
+
+// The byte that stands at `at`, by itself or as `\` and two digits.
+fn byte(s: &[u8], at: usize) -> u8
+    requires { ⌜ at < length (now s) ⌝ }
+{
+    let n = digits_after(s, at);
+    if n == 0 {
+        return s[at];
+    }
+    (digit_of(s[at + n - 1]) * 16 + digit_of(s[at + n])) as u8
+}
+
+// Writes text.
+pub fn say(text: &[u8]) {
+    io::write_all(STDOUT_FILENO, text);
+}
+
+// Writes text, a space and a number.
+pub fn say_number(text: &[u8], n: usize) {
+    say(text);
+    say(b" ");
+    io::print_decimal(STDOUT_FILENO, n as u64);
+}

@@ -1,0 +1,102 @@
+// A line's answer: the function that it names, called on its numbers and bytes.
+use cases::say;
+use cases::say_number;
+
+// Writes the answer behind the line, if it names a function.
+pub fn answer(text: &[u8]) {
+    let end = cases::find(text, 0, b' ');
+    let name = ground::part(text, 0, end);
+    let from = cases::number(text, end);
+    let to = cases::number(text, from.next);
+    let mut space = io::buffer();
+    let n = cases::bytes(text, to.next, &mut space);
+    let s = &space[..n];
+    bounds(name, s, from.value, to.value);
+    scans(name, s, from.value);
+}
+
+// The functions over a span, and those of white space.
+fn bounds(name: &[u8], s: &[u8], from: usize, to: usize) {
+    if check::same(name, b"part") {
+        say_part(s, from, to);
+    } else if check::same(name, b"is_whitespace") {
+        say_white(s, from);
+    } else if check::same(name, b"name_len") {
+        say_number(b" =", white::name_len(s, from, to));
+    } else if check::same(name, b"trim_end") {
+        say_number(b" =", white::trim_end(s, from, to));
+    } else if check::same(name, b"skip_whitespace") {
+        say_number(b" =", white::skip_whitespace(s, from));
+    } else if check::same(name, b"utf8") {
+        say_utf8(utf8::check(s, from, to));
+    }
+}
+
+// The scans.
+fn scans(name: &[u8], s: &[u8], from: usize) {
+    if check::same(name, b"element") {
+        say_element(parser::element::element_end(s, from));
+    } else if check::same(name, b"pi") {
+        say_marks(parser::pi::pi_end(s, from));
+    } else if check::same(name, b"comment") {
+        say_marks(parser::comment::comment_end(s, from));
+    } else if check::same(name, b"cdata") {
+        say_marks(parser::cdata::cdata_end(s, from));
+    } else if check::same(name, b"text") {
+        say_first(parser::text::text_end(s, from));
+    } else if check::same(name, b"reference") {
+        say_first(parser::reference::reference_end(s, from));
+    }
+}
+
+fn say_part(s: &[u8], from: usize, to: usize) {
+    say(b" = ");
+    say(ground::part(s, from, to));
+}
+
+// Of the byte at `from`, if there is one.
+fn say_white(s: &[u8], from: usize) {
+    if s.len() <= from {
+        return;
+    }
+    if white::is_whitespace(s[from]) {
+        say(b" = true");
+    } else {
+        say(b" = false");
+    }
+}
+
+fn say_utf8(u: utf8::Utf8) {
+    match u {
+        utf8::Utf8::WellFormed => say(b" = well formed"),
+        utf8::Utf8::IllFormed(at) => say_number(b" = ill formed at", at),
+    }
+}
+
+fn say_element(f: parser::element::Found) {
+    match f {
+        parser::element::Found::At(at) => say_number(b" = at", at),
+        parser::element::Found::Open(q) => match q {
+            parser::element::ElementState::Outside => say(b" = open, outside"),
+            parser::element::ElementState::SingleQ => say(b" = open, within '"),
+            parser::element::ElementState::DoubleQ => say(b" = open, within \""),
+        },
+    }
+}
+
+fn say_marks(f: parser::marks::Found) {
+    match f {
+        parser::marks::Found::At(at) => say_number(b" = at", at),
+        parser::marks::Found::Open(m) => {
+            say_number(b" = open, left", m.left);
+            say_number(b", seen", m.seen);
+        }
+    }
+}
+
+fn say_first(f: parser::first::Found) {
+    match f {
+        parser::first::Found::At(at) => say_number(b" = at", at),
+        parser::first::Found::End => say(b" = end"),
+    }
+}

@@ -1,0 +1,4 @@
+pub mod Table
+pub mod Chars
+pub mod Rfc
+pub mod Turns

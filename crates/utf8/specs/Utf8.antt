@@ -1,0 +1,80 @@
+-- Well-formed UTF-8: RFC 3629, section 4.
+use Prim.Native.Nat.{ℕ, zero, suc, _+_, _<_}
+use mathlib.Core.Path.{_≡_}
+use mathlib.Core.List.{List, [], _∷_, _++_}
+use mathlib.Core.Bool.{Bool, true, false}
+use lib.ListN.{length, take, drop}
+use lib.Dec.{leb}
+use Rattle.ground.specs.Choose.{pick}
+use Rattle.utf8.specs.declared.Utf8.{Utf8}
+use Rattle.utf8.specs.declared.Utf8.the-variants.{WellFormed, IllFormed}
+
+-- %xLO-HI: a byte from lo up to hi, both included
+abbrev pub Range : Type 0
+Range = ℕ × ℕ
+
+abbrev pub inRange : Range → ℕ → Bool
+inRange r b = pick (leb (r .0) b) (leb b (r .1)) false
+
+-- UTF8-tail = %x80-BF
+abbrev pub tail : Range
+tail = (0x80, 0xBF)
+
+-- UTF8-char = UTF8-1 / UTF8-2 / UTF8-3 / UTF8-4, row by row
+abbrev pub rows : List (List Range)
+rows =
+    ((0x00, 0x7F) ∷ [])
+    ∷ ((0xC2, 0xDF) ∷ tail ∷ [])
+    ∷ ((0xE0, 0xE0) ∷ (0xA0, 0xBF) ∷ tail ∷ [])
+    ∷ ((0xE1, 0xEC) ∷ tail ∷ tail ∷ [])
+    ∷ ((0xED, 0xED) ∷ (0x80, 0x9F) ∷ tail ∷ [])
+    ∷ ((0xEE, 0xEF) ∷ tail ∷ tail ∷ [])
+    ∷ ((0xF0, 0xF0) ∷ (0x90, 0xBF) ∷ tail ∷ tail ∷ [])
+    ∷ ((0xF1, 0xF3) ∷ tail ∷ tail ∷ tail ∷ [])
+    ∷ ((0xF4, 0xF4) ∷ (0x80, 0x8F) ∷ tail ∷ tail ∷ [])
+    ∷ []
+
+-- the bytes begin with a byte of each range in turn
+unfoldable pub begins : List Range → List ℕ → Bool
+begins [] bs = true
+begins (r ∷ rs) [] = false
+begins (r ∷ rs) (b ∷ bs) = pick (inRange r b) (begins rs bs) false
+
+-- how many bytes the first row takes that the bytes begin with; 0 where they begin with none
+unfoldable pub taken : List (List Range) → List ℕ → ℕ
+taken [] bs = 0
+taken (r ∷ rs) bs = pick (begins r bs) (length r) (taken rs bs)
+
+-- the length of the well-formed character that the bytes begin with, or 0
+abbrev pub charLen : List ℕ → ℕ
+charLen bs = taken rows bs
+
+-- a UTF8-char: bytes that a row takes whole
+pub record Char (c : List ℕ) : Type 0 where
+  pub some-byte : 0 < length c
+  pub whole : charLen c ≡ length c
+
+-- UTF8-octets = *( UTF8-char )
+pub data Octets : List ℕ → Type 0 where
+  none : Octets []
+  char : {c bs : List ℕ} → Char c → Octets bs → Octets (c ++ bs)
+
+-- a position from which no well-formed character starts, all before it being well formed
+pub record Stuck (bs : List ℕ) (p : ℕ) : Type 0 where
+  pub within : p < length bs
+  pub before : Octets (take p bs)
+  pub no-char : charLen (drop p bs) ≡ 0
+
+-- bytes that start at position i, of which the first k belong to a character that was taken already
+abbrev pub after : ℕ → ℕ → (ℕ → Utf8) → Utf8
+after zero i go-on = IllFormed i
+after (suc k) i go-on = go-on k
+
+unfoldable pub checkFrom : ℕ → ℕ → List ℕ → Utf8
+checkFrom k i [] = WellFormed
+checkFrom (suc k) i (b ∷ bs) = checkFrom k (i + 1) bs
+checkFrom zero i (b ∷ bs) = after (charLen (b ∷ bs)) i (λ k. checkFrom k (i + 1) bs)
+
+-- the check of bytes that start at position i
+abbrev pub check : ℕ → List ℕ → Utf8
+check i bs = checkFrom 0 i bs

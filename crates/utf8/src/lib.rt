@@ -1,0 +1,93 @@
+// The UTF-8 check (RFC 3629, section 4).
+ghost use mathlib.Core.Path.{_≡_};
+ghost use mathlib.Core.List.{_∷_};
+ghost use Prim.Native.Nat.{_+_};
+ghost use lib.ListN.{drop, replicate};
+ghost use Rattle.ground.specs.Choose.{pick};
+ghost use Rattle.ground.specs.Part.{part as partOf};
+ghost use Rattle.utf8.specs.Utf8.{tail, begins, charLen, check as checkOf};
+
+// What the check says of bytes: all are well formed, or the first position from which no well-formed character starts.
+pub enum Utf8 {
+    WellFormed,
+    IllFormed(usize),
+}
+
+// The length of a character whose bytes after the first start at `at`: one of lo..=hi, and then `more` of 80..=BF. 0 where they do
+// not stand there.
+fn tail_len(s: &[u8], at: usize, lo: u8, hi: u8, more: u8) -> usize
+    ensures { λ r. ⌜ r ≡ pick (begins ((lo, hi) ∷ replicate more tail) (drop at (now (s .entry)))) (more + 2) 0 ⌝ }
+{
+    let mut i = at;
+    let mut low = lo;
+    let mut high = hi;
+    let mut left = more;
+    loop {
+        if s.len() <= i {
+            return 0;
+        }
+        let b = s[i];
+        if b < low {
+            return 0;
+        }
+        if high < b {
+            return 0;
+        }
+        if left == 0 {
+            return more as usize + 2;
+        }
+        left -= 1;
+        low = 0x80;
+        high = 0xBF;
+        i += 1;
+    }
+}
+
+// The length of the well-formed character that starts at `at`; 0 where none does.
+fn char_len(s: &[u8], at: usize) -> usize
+    ensures { λ r. ⌜ r ≡ charLen (drop at (now (s .entry))) ⌝ }
+{
+    if s.len() <= at {
+        return 0;
+    }
+    let next = at + 1;
+    match s[at] {
+        0x00..=0x7F => 1,
+        0xC2..=0xDF => tail_len(s, next, 0x80, 0xBF, 0),
+        0xE0 => tail_len(s, next, 0xA0, 0xBF, 1),
+        0xE1..=0xEC => tail_len(s, next, 0x80, 0xBF, 1),
+        0xED => tail_len(s, next, 0x80, 0x9F, 1),
+        0xEE..=0xEF => tail_len(s, next, 0x80, 0xBF, 1),
+        0xF0 => tail_len(s, next, 0x90, 0xBF, 2),
+        0xF1..=0xF3 => tail_len(s, next, 0x80, 0xBF, 2),
+        0xF4 => tail_len(s, next, 0x80, 0x8F, 2),
+        _ => 0,
+    }
+}
+
+// The check of all the bytes.
+fn check_all(s: &[u8]) -> Utf8
+    ensures { λ r. ⌜ r ≡ checkOf 0 (now (s .entry)) ⌝ }
+{
+    let mut i = 0;
+    while i < s.len() {
+        let n = char_len(s, i);
+        if n == 0 {
+            return Utf8::IllFormed(i);
+        }
+        i += n;
+    }
+    Utf8::WellFormed
+}
+
+// The check of the bytes from `from` up to `to`, with the position counted in the whole slice. A span that does not lie in the
+// slice holds no bytes, and those are well formed.
+pub fn check(s: &[u8], from: usize, to: usize) -> Utf8
+    ensures { λ r. ⌜ r ≡ checkOf from (partOf (now (s .entry)) from to) ⌝ }
+{
+    let u = check_all(ground::part(s, from, to));
+    let Utf8::IllFormed(k) = u else {
+        return Utf8::WellFormed;
+    };
+    Utf8::IllFormed(from + k)
+}
