@@ -1,15 +1,18 @@
 // A line's answer: the function that it names, called on its numbers and bytes.
-use cases::say;
-use cases::say_number;
+use crate::line::bytes;
+use crate::line::find;
+use crate::line::number;
+use crate::line::say;
+use crate::line::say_number;
 
 // Writes the answer behind the line, if it names a function.
 pub fn answer(text: &[u8]) {
-    let end = cases::find(text, 0, b' ');
+    let end = find(text, 0, b' ');
     let name = ground::part(text, 0, end);
-    let from = cases::number(text, end);
-    let to = cases::number(text, from.next);
+    let from = number(text, end);
+    let to = number(text, from.next);
     let mut space = io::buffer();
-    let n = cases::bytes(text, to.next, &mut space);
+    let n = bytes(text, to.next, &mut space);
     let s = &space[..n];
     bounds(name, s, from.value, to.value);
     scans(name, s, from.value);

@@ -1,6 +1,7 @@
 // Runs the leaves on cases from standard input, a case to a line, and writes each line with the answer behind it. A line has a function's name, its
 // numbers and, last, bytes up to the line's end, where `\` and two hexadecimal digits stand for a byte. A line with another name is written as it is.
 mod answers;
+mod line;
 
 use libc::STDIN_FILENO;
 
@@ -14,11 +15,11 @@ fn main() {
 fn run(s: &[u8]) {
     let mut at = 0;
     while at < s.len() {
-        let end = cases::find(s, at, b'\n');
+        let end = line::find(s, at, b'\n');
         let text = ground::part(s, at, end);
-        cases::say(text);
+        line::say(text);
         answers::answer(text);
-        cases::say(b"\n");
+        line::say(b"\n");
         at = end + 1;
     }
 }

@@ -2,8 +2,8 @@
 use Prim.Native.Nat.{_-_, _≤_}
 use lib.ListN.{length}
 use borrow.Author.Needs.{needs}
-use Rattle.cases.proofs.find.Statement.{statement}
-use Rattle.cases.proofs.find.Tie as tie
+use Rattle.leaves.proofs.line.find.Statement.{statement}
+use Rattle.leaves.proofs.line.find.Tie as tie
 
 abbrev Inv-loop : tie.InvT-loop
 Inv-loop s from b i₀ i = from ≤ i

@@ -1,4 +1,4 @@
-// A case of a program that runs cases: the parts of its line, and how an answer is written behind it.
+// The parts of a case's line, and how an answer is written behind it.
 use libc::STDOUT_FILENO;
 ghost use Prim.Native.Nat.{_+_, _<_, _≤_, min};
 ghost use lib.ListN.{length};
