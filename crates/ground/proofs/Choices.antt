@@ -1,7 +1,7 @@
 -- A choice by a test of two numbers, from the fact that the code's own test gave: what `search` answers a definition by cases with.
 -- Assumes nothing.
 use Prim.Native.Nat.{ℕ, _≤_, _<_}
-use mathlib.Core.Path.{_≡_, refl, sym, ap, _∙_}
+use mathlib.Core.Path.{_≡_, refl}
 use mathlib.Core.Bool.{Bool, true, false}
 use native.Mathlib.Omega.{arith}
 use lib.Dec.{leb, ltb, eqb}
@@ -54,8 +54,3 @@ pick-same false x = refl
 pub pick-cases : {A : Type 0} (M : A → Type 0) (t : Bool) (x y : A) → (t ≡ true → M x) → (t ≡ false → M y) → M (pick t x y)
 pick-cases M true x y f g = f refl
 pick-cases M false x y f g = g refl
-
--- a caller that takes an answer f apart: f is what the callee's definition says, a, and it is the variant k. Listed with the caller's own
--- definition g, as `via pieceOf`.
-pub via : {A B : Type 0} (g : A → B) (x : B) (f a k : A) → f ≡ a → f ≡ k → x ≡ g k → x ≡ g a
-via g x f a k p q e = e ∙ ap g (sym q ∙ p)

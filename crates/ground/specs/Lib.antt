@@ -1,3 +1,4 @@
+pub mod Bytes
 pub mod Choose
 pub mod Least
 pub mod Part

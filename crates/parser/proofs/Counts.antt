@@ -1,15 +1,15 @@
 -- What the state of a scan for marks means at a position, and that each byte keeps it so: for any mark but `>`, any number of marks and any opener.
 -- Assumes nothing.
 use Prim.Native.Nat.{ℕ, zero, suc, _+_, _-_, _≤_, _<_}
-use mathlib.Core.Path.{_≡_, refl, sym, ap, _∙_}
+use mathlib.Core.Path.{_≡_, sym, ap, _∙_}
 use mathlib.Core.List.{List}
-use mathlib.Core.Bool.{Bool, true, false}
 use mathlib.Core.Logic.{_⊎_, inl, inr, ⊎-elim}
 use native.Mathlib.Omega.{arith}
 use lib.ListN.{length, getD}
 use lib.Dec.{eqb, leb, ltb}
 use borrow.Author.Tests.{eqb-true, eqb-false, leb-true, leb-false, ltb-true, ltb-false}
 use Rattle.ground.proofs.Choices.{pick-cases}
+use Rattle.ground.specs.Bytes.{gt}
 use Rattle.parser.specs.Machine.{Next, go, stop}
 use Rattle.parser.specs.Marks.{marksStep, seeing, passing, MarkedEnd}
 use Rattle.parser.specs.declared.marks.Marks.{Marks}
@@ -53,7 +53,7 @@ module _ (mark need opener : ℕ) (s : List ℕ) (from : ℕ) where
       back : (i j : ℕ) → i + 1 - suc (suc j) ≡ i - suc j
       back i j = omega arith
 
-  module _ (other : mark ≡ 62 → ⊥) where
+  module _ (other : mark ≡ gt → ⊥) where
     module _ (m : Marks) (i : ℕ) (c : Counts m i) (h : i < length s) where
       abbrev Here : Next Marks → Type 0
       Here = Meets (marksStep mark need) s (MarkedEnd mark need (opener + need) s from) Counts i
@@ -73,16 +73,16 @@ module _ (mark need opener : ℕ) (s : List ℕ) (from : ℕ) where
 
       module _ (e : m .left ≡ 0) where
         -- a `>` with the marks that it needs, or without
-        stops : getD s i 0 ≡ 62 → need ≤ m .seen → Here stop
+        stops : getD s i 0 ≡ gt → need ≤ m .seen → Here stop
         stops b l = record { after = omega (arith, c .room); within = h; closes = b; marks = λ j z k. c .marks j z (omega arith) }
 
-        goes : getD s i 0 ≡ 62 → m .seen < need → Here (go (seeing 0))
+        goes : getD s i 0 ≡ gt → m .seen < need → Here (go (seeing 0))
         goes b l = (
           λ p. ⊎-elim (λ k. omega (arith, p .after)) (λ n. n (p .marks (m .seen + 1) (omega arith) (omega arith))) (c .no-more e l),
           none-seen i (omega (arith, c .room)) (λ x. other (sym x ∙ b)),
         )
 
-        module _ (d : getD s i 0 ≡ 62 → ⊥) where
+        module _ (d : getD s i 0 ≡ gt → ⊥) where
           -- a mark, and fewer seen than needed, or enough
           counts-one : getD s i 0 ≡ mark → m .seen < need → Here (go (seeing (m .seen + 1)))
           counts-one b l = (
@@ -117,10 +117,10 @@ module _ (mark need opener : ℕ) (s : List ℕ) (from : ℕ) where
       counts-meets =
           pick-cases Here (eqb (m .left) 0) _ _
           (λ z. let e = eqb-true (m .left) 0 z in
-          pick-cases Here (eqb (getD s i 0) 62) _ _
-          (λ x. let b = eqb-true (getD s i 0) 62 x in
+          pick-cases Here (eqb (getD s i 0) gt) _ _
+          (λ x. let b = eqb-true (getD s i 0) gt x in
           pick-cases Here (leb need (m .seen)) _ _ (λ l. stops e b (leb-true _ _ l)) (λ l. goes e b (leb-false _ _ l)))
-          (λ x. let d = eqb-false (getD s i 0) 62 x in
+          (λ x. let d = eqb-false (getD s i 0) gt x in
           pick-cases Here (eqb (getD s i 0) mark) _ _
           (λ y. let b = eqb-true (getD s i 0) mark y in
           pick-cases Here (ltb (m .seen) need) _ _ (λ l. counts-one e d b (ltb-true _ _ l)) (λ l. enough e d b (ltb-false _ _ l)))

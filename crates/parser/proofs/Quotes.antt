@@ -2,9 +2,9 @@
 use Prim.Native.Nat.{ℕ}
 use mathlib.Core.Path.{_≡_, refl, sym, ap, _∙_, subst}
 use mathlib.Core.List.{List, [], _∷_, _++_, append-assoc, append-nil}
-use mathlib.Core.Logic.{_⊎_, inl, inr, ⊎-elim}
-use native.Mathlib.Omega.{arith}
+use mathlib.Core.Logic.{inl, inr}
 use native.Mathlib.Decide.{ℕ-discrete}
+use Rattle.ground.specs.Bytes.{quot, apos, gt}
 use Rattle.parser.specs.Machine.{Next, go, stop}
 use Rattle.parser.specs.Element.{elementStep, quoteOf, IsQuote, Without, OutsideQuotes, at-first, plain, quoted, WithinQuote, opened, LeavesIn}
 use Rattle.parser.specs.declared.element.ElementState.{ElementState}
@@ -54,7 +54,7 @@ run-without q (x ∷ xs) h w = ap (λ (n : Next ElementState). run (after (quote
 run-plain : (b : ℕ) → (IsQuote b → ⊥) → run Outside (b ∷ []) ≡ Outside
 unfolding run after
 run-plain b n =
-    elim (ℕ-discrete b 62) [
+    elim (ℕ-discrete b gt) [
       | yes e ↦ ap (after Outside) (step-stop b e)
       | no d ↦ ap (after Outside) (step-plain b d n)
     ]
@@ -82,8 +82,8 @@ within-run q h (opened {bs = bs} xs o w) =
 
 leaves-run : (q : ElementState) (bs : List ℕ) → LeavesIn q bs → run Outside bs ≡ q
 leaves-run Outside bs o = outside-run o
-leaves-run SingleQ bs w = within-run 39 (inr refl) w
-leaves-run DoubleQ bs w = within-run 34 (inl refl) w
+leaves-run SingleQ bs w = within-run apos (inr refl) w
+leaves-run DoubleQ bs w = within-run quot (inl refl) w
 
 pub leaves-one : (q r : ElementState) (bs : List ℕ) → LeavesIn q bs → LeavesIn r bs → q ≡ r
 leaves-one q r bs x y = sym (leaves-run q bs x) ∙ leaves-run r bs y

@@ -2,14 +2,15 @@
 use Prim.Native.Nat.{ℕ, zero, suc, _+_, _-_, _≤_, _<_}
 use mathlib.Core.Path.{_≡_, refl, ap, ap₂, sym, _∙_}
 use mathlib.Core.List.{List}
-use mathlib.Core.Logic.{_⊎_, inl, inr, ⊎-elim}
+use mathlib.Core.Logic.{inl, inr, ⊎-elim}
 use lib.ListN.{length, getD}
 use native.Mathlib.Omega.{arith}
 use mathlib.Core.Bool.{Bool, true, false}
 use borrow.Author.Needs.{needs}
 use borrow.Author.Tests.{ne-eqb}
-use Rattle.parser.specs.Machine.{Next, go, stop, Scan, found, going, scanAt}
-use Rattle.parser.specs.Element.{elementStep, elementAnswer, elementFound, quoteOf, IsQuote}
+use Rattle.ground.specs.Bytes.{quot, apos, gt}
+use Rattle.parser.specs.Machine.{go, stop, Scan, scanAt}
+use Rattle.parser.specs.Element.{elementStep, elementAnswer, quoteOf, IsQuote}
 use Rattle.parser.specs.declared.element.ElementState.{ElementState}
 use Rattle.parser.specs.declared.element.ElementState.the-variants.{Outside}
 use Rattle.parser.specs.declared.element.Found.the-variants.{At, Open}
@@ -24,26 +25,26 @@ use Rattle.parser.proofs.Machine.{scan-end, scan-more, scan-stop}
 
 -- ---- what each class of byte does to a tag's scan
 
-pub step-stop : (b : ℕ) → b ≡ 62 → elementStep Outside b ≡ stop
+pub step-stop : (b : ℕ) → b ≡ gt → elementStep Outside b ≡ stop
 step-stop b e = rw e
 
 pub step-quote : (b : ℕ) → IsQuote b → elementStep Outside b ≡ go (quoteOf b)
 step-quote b q = ⊎-elim (λ e. rw e) (λ e. rw e) q
 
-pub step-plain : (b : ℕ) → (b ≡ 62 → ⊥) → (IsQuote b → ⊥) → elementStep Outside b ≡ go Outside
-step-plain b p q = simp (ne-eqb b 62 p, ne-eqb b 34 (λ e. q (inl e)), ne-eqb b 39 (λ e. q (inr e)))
+pub step-plain : (b : ℕ) → (b ≡ gt → ⊥) → (IsQuote b → ⊥) → elementStep Outside b ≡ go Outside
+step-plain b p q = simp (ne-eqb b gt p, ne-eqb b quot (λ e. q (inl e)), ne-eqb b apos (λ e. q (inr e)))
 
 pub step-close : (q b : ℕ) → IsQuote q → b ≡ q → elementStep (quoteOf q) b ≡ go Outside
 step-close q b h e = rw e (⊎-elim (λ e. rw e) (λ e. rw e) h)
 
 pub step-within : (q b : ℕ) → IsQuote q → (b ≡ q → ⊥) → elementStep (quoteOf q) b ≡ go (quoteOf q)
 step-within q b h n =
-    ⊎-elim (λ e. rw e (simp (ne-eqb b 34 (rw e at n)))) (λ e. rw e (simp (ne-eqb b 39 (rw e at n)))) h
+    ⊎-elim (λ e. rw e (simp (ne-eqb b quot (rw e at n)))) (λ e. rw e (simp (ne-eqb b apos (rw e at n)))) h
 
 -- ---- the loops of `element_end`: the state is Outside in the outer one and quoteOf b in the inner one
 
 module _ (s : List ℕ) (r : Scan ElementState) (i : ℕ) where
-  pub turn-plain : r ≡ scanAt elementStep Outside s i → i < length s → (getD s i 0 ≡ 62 → ⊥) → (IsQuote (getD s i 0) → ⊥)
+  pub turn-plain : r ≡ scanAt elementStep Outside s i → i < length s → (getD s i 0 ≡ gt → ⊥) → (IsQuote (getD s i 0) → ⊥)
       → r ≡ scanAt elementStep Outside s (i + 1)
   turn-plain v h p q = v ∙ scan-more elementStep Outside s i Outside h (step-plain (getD s i 0) p q)
 
@@ -54,7 +55,7 @@ module _ (s : List ℕ) (r : Scan ElementState) (i : ℕ) where
   pub end-outside : r ≡ scanAt elementStep Outside s i → length s ≤ i → Open Outside ≡ elementAnswer r
   end-outside v h = sym (ap elementAnswer (v ∙ scan-end elementStep Outside s i h))
 
-  pub end-found : r ≡ scanAt elementStep Outside s i → i < length s → getD s i 0 ≡ 62 → At i ≡ elementAnswer r
+  pub end-found : r ≡ scanAt elementStep Outside s i → i < length s → getD s i 0 ≡ gt → At i ≡ elementAnswer r
   end-found v h e = sym (ap elementAnswer (v ∙ scan-stop elementStep Outside s i h (step-stop (getD s i 0) e)))
 
   module _ (b : ℕ) (v : r ≡ scanAt elementStep (quoteOf b) s i) where

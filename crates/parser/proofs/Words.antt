@@ -1,6 +1,6 @@
 -- Each scan in the words of document 01: it answers "at p" exactly when p is the least position with the stated property, and otherwise exactly when there
 -- is none. Assumes nothing.
-use Prim.Native.Nat.{ℕ, zero, suc, _+_, _-_, _≤_, _<_}
+use Prim.Native.Nat.{ℕ, _+_, _-_, _≤_, _<_}
 use mathlib.Core.Path.{_≡_, refl, sym, ap, _∙_, subst}
 use mathlib.Core.List.{List, [], _∷_, _++_}
 use mathlib.Core.Bool.{Bool, true, false}
@@ -9,21 +9,21 @@ use native.Mathlib.Omega.{arith}
 use lib.ListN.{length, getD, take, drop, length-drop}
 use lib.Seq.{take-all}
 use lib.Dec.{eqb}
-use borrow.Author.Tests.{eqb-true, eqb-false, eq-eqb}
+use borrow.Author.Tests.{eqb-true, eqb-false}
 use Rattle.ground.specs.Choose.{pick}
-use Rattle.ground.specs.Least.{Least, Nowhere, Gives}
+use Rattle.ground.specs.Bytes.{quot, apos, gt, hyphen, question, bracket}
+use Rattle.ground.specs.Least.{Nowhere, Gives}
 use Rattle.ground.proofs.Choices.{pick-cases, clash}
 use Rattle.ground.proofs.Lists.{part-in, take-next}
-use Rattle.parser.specs.Machine.{Next, go, stop, Scan, found, going, scanAt}
+use Rattle.parser.specs.Machine.{Next, go, Scan, found, going, scanAt}
 use Rattle.parser.specs.Element.{elementStep, elementAnswer, elementFound, IsQuote, OutsideQuotes, at-first, plain, WithinQuote, LeavesIn, TagEnd}
 use Rattle.parser.specs.Marks.{marksStep, marksAnswer, marksFound, piFound, commentFound, cdataFound, passing, MarkedEnd, PiEnd, CommentEnd, CDataEnd}
 use Rattle.parser.specs.First.{firstStep, firstAnswer, firstFound, oneOf, textEnds, textFound, referenceEnds, referenceFound, Among, ByteAmong, TextEnd, ReferenceEnd}
 use Rattle.parser.specs.declared.element.ElementState.{ElementState}
 use Rattle.parser.specs.declared.element.ElementState.the-variants.{Outside, SingleQ, DoubleQ}
 use Rattle.parser.specs.declared.element.Found.the-variants.{At, Open}
-use Rattle.parser.specs.declared.marks.Marks.{Marks}
-use Rattle.parser.specs.declared.marks.Found.the-variants.{At as MarkedAt, Open as MarkedOpen}
-use Rattle.parser.specs.declared.first.Found.the-variants.{At as FirstAt, End}
+use Rattle.parser.specs.declared.marks.Found.the-variants.{At as MarkedAt}
+use Rattle.parser.specs.declared.first.Found.the-variants.{At as FirstAt}
 use Rattle.parser.proofs.Outcome.{Meets, Tells, tells, tells-gives}
 use Rattle.parser.proofs.Quotes.{opens, closes, stays, leaves-one}
 use Rattle.parser.proofs.Counts.{Counts, counts-meets, counts-start}
@@ -50,20 +50,20 @@ module _ (s : List ℕ) (from : ℕ) where
 
     outside-meets : OutsideQuotes (passed i) → Here (elementStep Outside b)
     outside-meets o =
-        pick-cases Here (eqb b 62) _ _
-        (λ x. record { after = f; within = h; closes = eqb-true b 62 x; outside = subst OutsideQuotes (sym (part-in s from i f (omega arith))) o })
-        (λ x. let no-end : TagEnd s from i → ⊥ = λ p. eqb-false b 62 x (p .closes) in
-        pick-cases Here (eqb b 39) _ _
-        (λ y. (no-end, next SingleQ (opened-by 39 (eqb-true b 39 y))))
-        (λ y. pick-cases Here (eqb b 34) _ _
-        (λ z. (no-end, next DoubleQ (opened-by 34 (eqb-true b 34 z))))
-        (λ z. (no-end, next Outside (plain o (⊎-elim (eqb-false b 34 z) (eqb-false b 39 y)))))))
+        pick-cases Here (eqb b gt) _ _
+        (λ x. record { after = f; within = h; closes = eqb-true b gt x; outside = subst OutsideQuotes (sym (part-in s from i f (omega arith))) o })
+        (λ x. let no-end : TagEnd s from i → ⊥ = λ p. eqb-false b gt x (p .closes) in
+        pick-cases Here (eqb b apos) _ _
+        (λ y. (no-end, next SingleQ (opened-by apos (eqb-true b apos y))))
+        (λ y. pick-cases Here (eqb b quot) _ _
+        (λ z. (no-end, next DoubleQ (opened-by quot (eqb-true b quot z))))
+        (λ z. (no-end, next Outside (plain o (⊎-elim (eqb-false b quot z) (eqb-false b apos y)))))))
       where
         opened-by : (q : ℕ) → b ≡ q → WithinQuote q (passed i ++ (b ∷ []))
         opened-by q e = subst (λ (x : ℕ). WithinQuote q (passed i ++ (x ∷ []))) (sym e) (opens q (passed i) o)
 
     -- within a quote q, whose state is t
-    module _ (q : ℕ) (t : ElementState) (a-quote : IsQuote q) (other : q ≡ 62 → ⊥) (not-out : t ≡ Outside → ⊥)
+    module _ (q : ℕ) (t : ElementState) (a-quote : IsQuote q) (other : q ≡ gt → ⊥) (not-out : t ≡ Outside → ⊥)
         (is : (bs : List ℕ) → WithinQuote q bs → LeavesIn t bs) (w : WithinQuote q (passed i)) where
       within-meets : Here (pick (eqb b q) (go Outside) (go t))
       within-meets =
@@ -85,8 +85,8 @@ module _ (s : List ℕ) (from : ℕ) where
 
   element-meets : (q : ElementState) (i : ℕ) → Means q i → i < length s → Meets elementStep s (TagEnd s from) Means i (elementStep q (getD s i 0))
   element-meets Outside i m h = outside-meets i h (m .0) (m .1)
-  element-meets SingleQ i m h = within-meets i h (m .0) 39 SingleQ (inr refl) (λ e. omega arith) apart-single (λ bs w. w) (m .1)
-  element-meets DoubleQ i m h = within-meets i h (m .0) 34 DoubleQ (inl refl) (λ e. omega arith) apart-double (λ bs w. w) (m .1)
+  element-meets SingleQ i m h = within-meets i h (m .0) apos SingleQ (inr refl) (λ e. omega arith) apart-single (λ bs w. w) (m .1)
+  element-meets DoubleQ i m h = within-meets i h (m .0) quot DoubleQ (inl refl) (λ e. omega arith) apart-double (λ bs w. w) (m .1)
 
   element-tells : Tells elementStep s (TagEnd s from) Means (scanAt elementStep Outside s from)
   element-tells =
@@ -119,7 +119,7 @@ module _ (s : List ℕ) (from : ℕ) where
 -- ---- processing instructions, comments and CDATA
 
 module _ (s : List ℕ) (from : ℕ) where
-  marks-gives : (opener mark need : ℕ) → (mark ≡ 62 → ⊥)
+  marks-gives : (opener mark need : ℕ) → (mark ≡ gt → ⊥)
       → Gives MarkedAt (marksFound opener mark need s from) (MarkedEnd mark need (opener + need) s from)
   marks-gives opener mark need other =
       let P = MarkedEnd mark need (opener + need) s from in
@@ -131,15 +131,15 @@ module _ (s : List ℕ) (from : ℕ) where
 
   -- the first `>` with a `?` just before
   pub pi-gives : Gives MarkedAt (piFound s from) (PiEnd s from)
-  pi-gives = marks-gives 0 63 1 (λ e. omega arith)
+  pi-gives = marks-gives 0 question 1 (λ e. omega arith)
 
   -- the first `>` at offset 6 or more with `--` just before
   pub comment-gives : Gives MarkedAt (commentFound s from) (CommentEnd s from)
-  comment-gives = marks-gives 4 45 2 (λ e. omega arith)
+  comment-gives = marks-gives 4 hyphen 2 (λ e. omega arith)
 
   -- the first `>` with `]]` just before
   pub cdata-gives : Gives MarkedAt (cdataFound s from) (CDataEnd s from)
-  cdata-gives = marks-gives 0 93 2 (λ e. omega arith)
+  cdata-gives = marks-gives 0 bracket 2 (λ e. omega arith)
 
 -- ---- text and references
 

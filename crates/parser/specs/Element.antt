@@ -6,6 +6,7 @@ use mathlib.Core.Logic.{_⊎_}
 use lib.ListN.{length, getD}
 use lib.Dec.{eqb}
 use Rattle.ground.specs.Choose.{pick}
+use Rattle.ground.specs.Bytes.{quot, apos, gt}
 use Rattle.ground.specs.Part.{part}
 use Rattle.parser.specs.Machine.{Next, go, stop, Scan, found, going, scanAt}
 use Rattle.parser.specs.declared.element.ElementState.{ElementState}
@@ -15,9 +16,9 @@ use Rattle.parser.specs.declared.element.Found.the-variants.{At, Open}
 
 -- outside quotes `>` stops the scan and a quote opens; within a quote only the same quote counts, and closes it
 abbrev pub elementStep : ElementState → ℕ → Next ElementState
-elementStep Outside b = pick (eqb b 62) stop (pick (eqb b 39) (go SingleQ) (pick (eqb b 34) (go DoubleQ) (go Outside)))
-elementStep SingleQ b = pick (eqb b 39) (go Outside) (go SingleQ)
-elementStep DoubleQ b = pick (eqb b 34) (go Outside) (go DoubleQ)
+elementStep Outside b = pick (eqb b gt) stop (pick (eqb b apos) (go SingleQ) (pick (eqb b quot) (go DoubleQ) (go Outside)))
+elementStep SingleQ b = pick (eqb b apos) (go Outside) (go SingleQ)
+elementStep DoubleQ b = pick (eqb b quot) (go Outside) (go DoubleQ)
 
 abbrev pub elementAnswer : Scan ElementState → Found
 elementAnswer (found p) = At p
@@ -28,13 +29,13 @@ elementFound s from = elementAnswer (scanAt elementStep Outside s from)
 
 -- the state within a quote that b opened
 abbrev pub quoteOf : ℕ → ElementState
-quoteOf b = pick (eqb b 39) SingleQ DoubleQ
+quoteOf b = pick (eqb b apos) SingleQ DoubleQ
 
 -- ---- the same in words
 
 -- `'` or `"`
 abbrev pub IsQuote : ℕ → Type 0
-IsQuote b = (b ≡ 34) ⊎ (b ≡ 39)
+IsQuote b = (b ≡ quot) ⊎ (b ≡ apos)
 
 -- no byte of the list is q
 abbrev pub Without : ℕ → List ℕ → Type 0
@@ -54,12 +55,12 @@ pub data WithinQuote (q : ℕ) : List ℕ → Type 0 where
 -- where bytes leave one, for each state
 abbrev pub LeavesIn : ElementState → List ℕ → Type 0
 LeavesIn Outside bs = OutsideQuotes bs
-LeavesIn SingleQ bs = WithinQuote 39 bs
-LeavesIn DoubleQ bs = WithinQuote 34 bs
+LeavesIn SingleQ bs = WithinQuote apos bs
+LeavesIn DoubleQ bs = WithinQuote quot bs
 
 -- at p stands a `>` outside quotes, which are counted from `from` on
 pub record TagEnd (s : List ℕ) (from p : ℕ) : Type 0 where
   pub after : from ≤ p
   pub within : p < length s
-  pub closes : getD s p 0 ≡ 62
+  pub closes : getD s p 0 ≡ gt
   pub outside : OutsideQuotes (part s from p)

@@ -7,6 +7,7 @@ use mathlib.Core.Logic.{_⊎_}
 use lib.ListN.{length, getD}
 use lib.Dec.{eqb}
 use Rattle.ground.specs.Choose.{pick}
+use Rattle.ground.specs.Bytes.{amp, lt, semicolon}
 use Rattle.parser.specs.Machine.{Next, go, stop, Scan, found, going, scanAt}
 use Rattle.parser.specs.declared.first.Found.{Found}
 use Rattle.parser.specs.declared.first.Found.the-variants.{At, End}
@@ -29,14 +30,14 @@ oneOf (k ∷ ks) b = pick (eqb b k) true (oneOf ks b)
 
 -- `<` and `&`
 abbrev pub textEnds : List ℕ
-textEnds = 60 ∷ 38 ∷ []
+textEnds = lt ∷ amp ∷ []
 
 abbrev pub textFound : List ℕ → ℕ → Found
 textFound s from = firstFound (oneOf textEnds) s from
 
 -- `;`, `&` and `<`
 abbrev pub referenceEnds : List ℕ
-referenceEnds = 59 ∷ 38 ∷ 60 ∷ []
+referenceEnds = semicolon ∷ amp ∷ lt ∷ []
 
 -- after the `&` at `from`
 abbrev pub referenceFound : List ℕ → ℕ → Found

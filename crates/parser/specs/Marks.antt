@@ -5,6 +5,7 @@ use mathlib.Core.List.{List}
 use lib.ListN.{length, getD}
 use lib.Dec.{eqb, leb, ltb}
 use Rattle.ground.specs.Choose.{pick}
+use Rattle.ground.specs.Bytes.{gt, hyphen, question, bracket}
 use Rattle.parser.specs.Machine.{Next, go, stop, Scan, found, going, scanAt}
 use Rattle.parser.specs.declared.marks.Marks.{Marks}
 use Rattle.parser.specs.declared.marks.Found.{Found}
@@ -22,7 +23,7 @@ passing n = record { left = n; seen = 0 }
 abbrev pub marksStep : ℕ → ℕ → Marks → ℕ → Next Marks
 marksStep mark need m b =
     pick (eqb (m .left) 0)
-    (pick (eqb b 62) (pick (leb need (m .seen)) stop (go (seeing 0)))
+    (pick (eqb b gt) (pick (leb need (m .seen)) stop (go (seeing 0)))
     (pick (eqb b mark) (pick (ltb (m .seen) need) (go (seeing (m .seen + 1))) (go (seeing (m .seen)))) (go (seeing 0))))
     (go (passing (m .left - 1)))
 
@@ -36,15 +37,15 @@ marksFound opener mark need s from = marksAnswer (scanAt (marksStep mark need) (
 
 -- a `?`
 abbrev pub piFound : List ℕ → ℕ → Found
-piFound = marksFound 0 63 1
+piFound = marksFound 0 question 1
 
 -- `--`, of which no byte belongs to the opener `<!--`
 abbrev pub commentFound : List ℕ → ℕ → Found
-commentFound = marksFound 4 45 2
+commentFound = marksFound 4 hyphen 2
 
 -- `]]`
 abbrev pub cdataFound : List ℕ → ℕ → Found
-cdataFound = marksFound 0 93 2
+cdataFound = marksFound 0 bracket 2
 
 -- ---- the same in words
 
@@ -52,17 +53,17 @@ cdataFound = marksFound 0 93 2
 pub record MarkedEnd (mark need least : ℕ) (s : List ℕ) (from p : ℕ) : Type 0 where
   pub after : from + least ≤ p
   pub within : p < length s
-  pub closes : getD s p 0 ≡ 62
+  pub closes : getD s p 0 ≡ gt
   pub marks : (j : ℕ) → 0 < j → j ≤ need → getD s (p - j) 0 ≡ mark
 
 -- "the first `>` with a `?` just before"
 abbrev pub PiEnd : List ℕ → ℕ → ℕ → Type 0
-PiEnd = MarkedEnd 63 1 1
+PiEnd = MarkedEnd question 1 1
 
 -- "the first `>` at offset 6 or more with `--` just before"
 abbrev pub CommentEnd : List ℕ → ℕ → ℕ → Type 0
-CommentEnd = MarkedEnd 45 2 6
+CommentEnd = MarkedEnd hyphen 2 6
 
 -- "the first `>` with `]]` just before"
 abbrev pub CDataEnd : List ℕ → ℕ → ℕ → Type 0
-CDataEnd = MarkedEnd 93 2 2
+CDataEnd = MarkedEnd bracket 2 2

@@ -1,7 +1,7 @@
 -- The runs of specs/White at a position of a list, and the turns and the ends of the loops that follow them. Assumes nothing.
 use Prim.Native.Nat.{ℕ, zero, suc, _+_, _-_, _^_, _≤_, _<_}
 use mathlib.Core.Path.{_≡_, refl, sym, ap, _∙_}
-use mathlib.Core.List.{List, [], _∷_}
+use mathlib.Core.List.{List}
 use mathlib.Core.Bool.{Bool, true, false, not}
 use native.Mathlib.Numerals.{sub-one}
 use native.Mathlib.Omega.{arith}

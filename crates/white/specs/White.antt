@@ -7,10 +7,11 @@ use mathlib.Core.Logic.{_⊎_}
 use lib.ListN.{length, getD, drop}
 use lib.Dec.{eqb}
 use Rattle.ground.specs.Choose.{pick}
+use Rattle.ground.specs.Bytes.{tab, lf, cr, space}
 
 -- S: space, tab, LF or CR
 abbrev pub isWhite : ℕ → Bool
-isWhite b = pick (eqb b 32) true (pick (eqb b 9) true (pick (eqb b 10) true (pick (eqb b 13) true false)))
+isWhite b = pick (eqb b space) true (pick (eqb b tab) true (pick (eqb b lf) true (pick (eqb b cr) true false)))
 
 abbrev pub notWhite : ℕ → Bool
 notWhite b = not (isWhite b)

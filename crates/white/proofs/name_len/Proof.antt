@@ -1,5 +1,5 @@
 -- `name_len` meets its contract. The invariant: the answer is i and the answer for what is left at i. Assumes nothing.
-use Prim.Native.Nat.{_+_, _-_, _≤_}
+use Prim.Native.Nat.{_+_, _-_}
 use mathlib.Core.Path.{_≡_}
 use lib.ListN.{length, drop}
 use Rattle.ground.specs.Part.{part}
