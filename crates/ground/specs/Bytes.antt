@@ -40,5 +40,5 @@ semicolon = 0x3B
 abbrev pub question : ℕ
 question = 0x3F
 
-abbrev pub bracket : ℕ
-bracket = 0x5D
+abbrev pub closeBracket : ℕ
+closeBracket = 0x5D

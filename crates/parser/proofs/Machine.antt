@@ -25,13 +25,14 @@ module _ {S : Type 0} (step : S → ℕ → Next S) where
     unfolding feed
     scan-end h = rw drop-done
 
+    scan-by : (n : Next S) → i < length a → step s (getD a i 0) ≡ n → scanAt step s a i ≡ feed step (stand i n) (i + 1) (drop (i + 1) a)
+    scan-by n h e = feed-next (going s) a i h ∙ ap (λ (n : Next S). feed step (stand i n) (i + 1) (drop (i + 1) a)) e
+
     pub scan-more : (t : S) → i < length a → step s (getD a i 0) ≡ go t → scanAt step s a i ≡ scanAt step t a (i + 1)
-    scan-more t h e = feed-next (going s) a i h ∙ ap (λ (n : Next S). feed step (stand i n) (i + 1) (drop (i + 1) a)) e
+    scan-more t h e = scan-by (go t) h e
 
     pub scan-stop : i < length a → step s (getD a i 0) ≡ stop → scanAt step s a i ≡ found i
-    scan-stop h e =
-        feed-next (going s) a i h ∙ ap (λ (n : Next S). feed step (stand i n) (i + 1) (drop (i + 1) a)) e
-        ∙ feed-found i (i + 1) (drop (i + 1) a)
+    scan-stop h e = scan-by stop h e ∙ feed-found i (i + 1) (drop (i + 1) a)
 
 -- ---- the turns and the ends of a loop that runs a machine, for any machine and any form `out` of its answer
 

@@ -21,7 +21,7 @@ use Rattle.parser.specs.declared.marks.Marks.{Marks}
 use Rattle.parser.specs.declared.marks.Found.{Found}
 use Rattle.parser.specs.declared.marks.Found.the-variants as Marked
 use Rattle.ground.proofs.Choices.{choices}
-use Rattle.parser.proofs.Machine.{scan-end, scan-more, scan-stop}
+use Rattle.parser.proofs.Machine.{scan-end, scan-more, run-turn, run-end, run-stop}
 
 -- ---- what each class of byte does to a tag's scan
 
@@ -44,29 +44,28 @@ step-within q b h n =
 -- ---- the loops of `element_end`: the state is Outside in the outer one and quoteOf b in the inner one
 
 module _ (s : List ℕ) (r : Scan ElementState) (i : ℕ) where
-  pub turn-plain : r ≡ scanAt elementStep Outside s i → i < length s → (getD s i 0 ≡ gt → ⊥) → (IsQuote (getD s i 0) → ⊥)
-      → r ≡ scanAt elementStep Outside s (i + 1)
-  turn-plain v h p q = v ∙ scan-more elementStep Outside s i Outside h (step-plain (getD s i 0) p q)
+  module _ (v : r ≡ scanAt elementStep Outside s i) where
+    pub turn-plain : i < length s → (getD s i 0 ≡ gt → ⊥) → (IsQuote (getD s i 0) → ⊥) → r ≡ scanAt elementStep Outside s (i + 1)
+    turn-plain h p q = run-turn elementStep r Outside s i v Outside h (sym (step-plain (getD s i 0) p q))
 
-  pub turn-quote : r ≡ scanAt elementStep Outside s i → i < length s → IsQuote (getD s i 0)
-      → r ≡ scanAt elementStep (quoteOf (getD s i 0)) s (i + 1)
-  turn-quote v h q = v ∙ scan-more elementStep Outside s i (quoteOf (getD s i 0)) h (step-quote (getD s i 0) q)
+    pub turn-quote : i < length s → IsQuote (getD s i 0) → r ≡ scanAt elementStep (quoteOf (getD s i 0)) s (i + 1)
+    turn-quote h q = run-turn elementStep r Outside s i v (quoteOf (getD s i 0)) h (sym (step-quote (getD s i 0) q))
 
-  pub end-outside : r ≡ scanAt elementStep Outside s i → length s ≤ i → Open Outside ≡ elementAnswer r
-  end-outside v h = sym (ap elementAnswer (v ∙ scan-end elementStep Outside s i h))
+    pub end-outside : length s ≤ i → Open Outside ≡ elementAnswer r
+    end-outside h = run-end elementAnswer elementStep r Outside s i (Open Outside) v h refl
 
-  pub end-found : r ≡ scanAt elementStep Outside s i → i < length s → getD s i 0 ≡ gt → At i ≡ elementAnswer r
-  end-found v h e = sym (ap elementAnswer (v ∙ scan-stop elementStep Outside s i h (step-stop (getD s i 0) e)))
+    pub end-found : i < length s → getD s i 0 ≡ gt → At i ≡ elementAnswer r
+    end-found h e = run-stop elementAnswer elementStep r Outside s i (At i) v h (sym (step-stop (getD s i 0) e)) refl
 
   module _ (b : ℕ) (v : r ≡ scanAt elementStep (quoteOf b) s i) where
     pub turn-close : i < length s → IsQuote b → getD s i 0 ≡ b → r ≡ scanAt elementStep Outside s (i + 1)
-    turn-close h q e = v ∙ scan-more elementStep (quoteOf b) s i Outside h (step-close b (getD s i 0) q e)
+    turn-close h q e = run-turn elementStep r (quoteOf b) s i v Outside h (sym (step-close b (getD s i 0) q e))
 
     pub turn-within : i < length s → IsQuote b → (getD s i 0 ≡ b → ⊥) → r ≡ scanAt elementStep (quoteOf b) s (i + 1)
-    turn-within h q n = v ∙ scan-more elementStep (quoteOf b) s i (quoteOf b) h (step-within b (getD s i 0) q n)
+    turn-within h q n = run-turn elementStep r (quoteOf b) s i v (quoteOf b) h (sym (step-within b (getD s i 0) q n))
 
     pub end-within : (t : ElementState) → length s ≤ i → t ≡ quoteOf b → Open t ≡ elementAnswer r
-    end-within t h e = ap Open e ∙ sym (ap elementAnswer (v ∙ scan-end elementStep (quoteOf b) s i h))
+    end-within t h e = run-end elementAnswer elementStep r (quoteOf b) s i (Open t) v h (ap Open e)
 
 pub ruleset tag-turns = (needs, turn-plain, turn-quote, turn-close, turn-within, end-outside, end-found, end-within)
 
@@ -74,13 +73,13 @@ pub ruleset tag-turns = (needs, turn-plain, turn-quote, turn-close, turn-within,
 
 module _ (test : ℕ → Bool) (s : List ℕ) (r : Scan (Unit {0})) (i : ℕ) (v : r ≡ scanAt (firstStep test) tt s i) where
   pub first-turn : i < length s → false ≡ test (getD s i 0) → r ≡ scanAt (firstStep test) tt s (i + 1)
-  first-turn h e = v ∙ scan-more (firstStep test) tt s i tt h (rw (← e))
+  first-turn h e = run-turn (firstStep test) r tt s i v tt h (rw (← e))
 
   pub first-here : i < length s → true ≡ test (getD s i 0) → First.At i ≡ firstAnswer r
-  first-here h e = sym (ap firstAnswer (v ∙ scan-stop (firstStep test) tt s i h (rw (← e))))
+  first-here h e = run-stop firstAnswer (firstStep test) r tt s i (First.At i) v h (rw (← e)) refl
 
   pub first-end : length s ≤ i → First.End ≡ firstAnswer r
-  first-end h = sym (ap firstAnswer (v ∙ scan-end (firstStep test) tt s i h))
+  first-end h = run-end firstAnswer (firstStep test) r tt s i First.End v h refl
 
 -- a place at or past the end
 pub first-past : (test : ℕ → Bool) (s : List ℕ) (from : ℕ) → length s ≤ from → First.End ≡ firstFound test s (from + 1)

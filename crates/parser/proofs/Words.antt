@@ -11,7 +11,7 @@ use lib.Seq.{take-all}
 use lib.Dec.{eqb}
 use borrow.Author.Tests.{eqb-true, eqb-false}
 use Rattle.ground.specs.Choose.{pick}
-use Rattle.ground.specs.Bytes.{quot, apos, gt, hyphen, question, bracket}
+use Rattle.ground.specs.Bytes.{quot, apos, gt, hyphen, question, closeBracket}
 use Rattle.ground.specs.Least.{Nowhere, Gives}
 use Rattle.ground.proofs.Choices.{pick-cases, clash}
 use Rattle.ground.proofs.Lists.{part-in, take-next}
@@ -139,7 +139,7 @@ module _ (s : List ℕ) (from : ℕ) where
 
   -- the first `>` with `]]` just before
   pub cdata-gives : Gives MarkedAt (cdataFound s from) (CDataEnd s from)
-  cdata-gives = marks-gives 0 bracket 2 (λ e. omega arith)
+  cdata-gives = marks-gives 0 closeBracket 2 (λ e. omega arith)
 
 -- ---- text and references
 

@@ -5,7 +5,7 @@ use mathlib.Core.List.{List}
 use lib.ListN.{length, getD}
 use lib.Dec.{eqb, leb, ltb}
 use Rattle.ground.specs.Choose.{pick}
-use Rattle.ground.specs.Bytes.{gt, hyphen, question, bracket}
+use Rattle.ground.specs.Bytes.{gt, hyphen, question, closeBracket}
 use Rattle.parser.specs.Machine.{Next, go, stop, Scan, found, going, scanAt}
 use Rattle.parser.specs.declared.marks.Marks.{Marks}
 use Rattle.parser.specs.declared.marks.Found.{Found}
@@ -15,11 +15,11 @@ use Rattle.parser.specs.declared.marks.Found.the-variants.{At, Open}
 abbrev pub seeing : ℕ → Marks
 seeing n = record { left = 0; seen = n }
 
--- `left` bytes of the opener are yet to pass
+-- n bytes of the opener are yet to pass
 abbrev pub passing : ℕ → Marks
 passing n = record { left = n; seen = 0 }
 
--- the bytes of the opener pass; then marks are counted, up to `need`, and `>` stops the scan where there are as many
+-- the bytes of the opener pass; then marks are counted, up to `need`, and `>` stops the scan where there are as many, and is never counted
 abbrev pub marksStep : ℕ → ℕ → Marks → ℕ → Next Marks
 marksStep mark need m b =
     pick (eqb (m .left) 0)
@@ -45,7 +45,7 @@ commentFound = marksFound 4 hyphen 2
 
 -- `]]`
 abbrev pub cdataFound : List ℕ → ℕ → Found
-cdataFound = marksFound 0 bracket 2
+cdataFound = marksFound 0 closeBracket 2
 
 -- ---- the same in words
 
@@ -56,7 +56,7 @@ pub record MarkedEnd (mark need least : ℕ) (s : List ℕ) (from p : ℕ) : Typ
   pub closes : getD s p 0 ≡ gt
   pub marks : (j : ℕ) → 0 < j → j ≤ need → getD s (p - j) 0 ≡ mark
 
--- "the first `>` with a `?` just before"
+-- "the first `>` with a `?` just before"; the `?` belongs to the piece, so the `>` stands at offset 1 or more
 abbrev pub PiEnd : List ℕ → ℕ → ℕ → Type 0
 PiEnd = MarkedEnd question 1 1
 
@@ -64,6 +64,6 @@ PiEnd = MarkedEnd question 1 1
 abbrev pub CommentEnd : List ℕ → ℕ → ℕ → Type 0
 CommentEnd = MarkedEnd hyphen 2 6
 
--- "the first `>` with `]]` just before"
+-- "the first `>` with `]]` just before"; both belong to the piece, so the `>` stands at offset 2 or more
 abbrev pub CDataEnd : List ℕ → ℕ → ℕ → Type 0
-CDataEnd = MarkedEnd bracket 2 2
+CDataEnd = MarkedEnd closeBracket 2 2

@@ -15,7 +15,8 @@ pub enum Found {
     Open(Marks),
 }
 
-// The first `>` with `need` bytes `mark` just before it, in a piece that starts at `from` and whose first `opener` bytes count for nothing.
+// The first `>` with `need` bytes `mark` just before it, in a piece that starts at `from` and whose first `opener` bytes count for nothing. A `>` is never
+// counted as a mark.
 pub fn marks_end(s: &[u8], from: usize, opener: usize, mark: u8, need: usize) -> Found
     ensures { λ r. ⌜ r ≡ marksFound opener mark need (now (s .entry)) from ⌝ }
 {

@@ -3,7 +3,7 @@ use crate::first::Found;
 ghost use mathlib.Core.Path.{_≡_};
 ghost use Rattle.parser.specs.First.{referenceFound};
 
-// The first of `;`, `&`, `<` after the `&` at `from`.
+// The first of `;`, `&`, `<` after the byte at `from`, which is the reference's `&`.
 pub fn reference_end(s: &[u8], from: usize) -> Found
     ensures { λ r. ⌜ r ≡ referenceFound (now (s .entry)) from ⌝ }
 {

@@ -8,33 +8,58 @@ use native.Mathlib.Omega.{arith}
 use native.Mathlib.Decide.{decLt}
 use lib.ListN.{length, take, drop, length-drop, take-append-drop}
 use lib.Seq.{length-take-le, take-add, drop-drop, drop-append-seam}
-use Rattle.utf8.specs.Utf8.{rows, charLen, Char, Octets, Stuck, after, checkFrom, check}
+use Rattle.utf8.specs.Utf8.{rows, charLen, Char, Octets, Stuck, atChar, checkFrom, check}
 use Rattle.utf8.specs.Utf8.Octets.{none, char}
 use Rattle.utf8.specs.declared.Utf8.the-variants.{WellFormed, IllFormed}
-use Rattle.utf8.proofs.Table.{begins-cut, taken-fits, taken-alike}
+use Rattle.utf8.proofs.Table.{begins-cut, taken-fits, taken-alike, taken-matches, Alone, matches-taken, none-empty}
 
 -- ---- the character that bytes begin with
+
+-- the first byte tells the row
+alone : Alone rows rows
+alone = (refl, (refl, (refl, (refl, (refl, (refl, (refl, (refl, (refl, tt)))))))))
+
+-- a character is what the table takes whole
+pub char-whole : (c : List ℕ) → Char c → charLen c ≡ length c
+char-whole c h = matches-taken rows rows c alone (h .matches)
+
+pub char-some : (c : List ℕ) → Char c → 0 < length c
+char-some [] h = absurd (none-empty rows rows alone (h .matches))
+char-some (b ∷ bs) h = omega arith
 
 module _ (c zs : List ℕ) where
   -- a character is one whatever comes after it
   pub char-before : Char c → charLen (c ++ zs) ≡ length c
   char-before h =
-      let e = h .whole in
-      let s = h .some-byte in
+      let e = char-whole c h in
+      let s = char-some c h in
       taken-alike c (c ++ zs) (length c) (begins-cut c zs) 1 rows refl (omega arith) (omega arith) ∙ e
 
   -- the bytes that the table takes are a character
   pub char-taken : 0 < length c → charLen (c ++ zs) ≡ length c → Char c
-  char-taken h e = record {
-    some-byte = h;
-    whole = taken-alike (c ++ zs) c (length c) (λ r l. sym (begins-cut c zs r l)) 1 rows refl (omega arith) (omega arith) ∙ e;
-  }
+  char-taken h e =
+      let f = taken-alike (c ++ zs) c (length c) (λ r l. sym (begins-cut c zs r l)) 1 rows refl (omega arith) (omega arith) ∙ e in
+      record { matches = taken-matches rows c h f }
 
 pub char-first : (bs : List ℕ) → 0 < charLen bs → Char (take (charLen bs) bs)
 char-first bs h =
     let n = charLen bs in
     let l : length (take n bs) ≡ n = length-take-le n bs (taken-fits rows bs) in
     char-taken (take n bs) (drop n bs) (omega arith) (ap charLen (take-append-drop n bs) ∙ sym l)
+
+-- no character starts where the table takes nothing
+pub no-char-here : (bs : List ℕ) → charLen bs ≡ 0 → (n : ℕ) → Char (take n bs) → ⊥
+no-char-here bs e n h =
+    let s = char-some (take n bs) h in
+    let f : charLen bs ≡ length (take n bs) = ap charLen (sym (take-append-drop n bs)) ∙ char-before (take n bs) (drop n bs) h in
+    omega arith
+
+pub nothing-taken : (bs : List ℕ) → ((n : ℕ) → Char (take n bs) → ⊥) → charLen bs ≡ 0
+nothing-taken bs f =
+    elim (decLt 0 (charLen bs)) [
+      | yes h ↦ absurd (f (charLen bs) (char-first bs h))
+      | no h ↦ omega arith
+    ]
 
 -- ---- the check of one character
 
@@ -52,14 +77,14 @@ unfolding checkFrom
 check-char i [] h = absurd (omega (arith, taken-fits rows []))
 check-char i (b ∷ bs) h = go (charLen (b ∷ bs)) h
   where
-    go : (n : ℕ) → 0 < n → after n i (λ k. checkFrom k (i + 1) bs) ≡ check (i + n) (drop n (b ∷ bs))
+    go : (n : ℕ) → 0 < n → atChar n i (λ k. checkFrom k (i + 1) bs) ≡ check (i + n) (drop n (b ∷ bs))
     go zero h = absurd (omega arith)
     go (suc k) h = check-skip (suc k) i (b ∷ bs)
 
 pub check-stuck : (i : ℕ) (bs : List ℕ) → 0 < length bs → charLen bs ≡ 0 → check i bs ≡ IllFormed i
 unfolding checkFrom
 check-stuck i [] h e = absurd (omega arith)
-check-stuck i (b ∷ bs) h e = ap (λ (n : ℕ). after n i (λ k. checkFrom k (i + 1) bs)) e
+check-stuck i (b ∷ bs) h e = ap (λ (n : ℕ). atChar n i (λ k. checkFrom k (i + 1) bs)) e
 
 pub check-end : (i : ℕ) → check i [] ≡ WellFormed
 unfolding checkFrom
@@ -68,7 +93,7 @@ check-end i = refl
 pub check-before : (i : ℕ) (c zs : List ℕ) → Char c → check i (c ++ zs) ≡ check (i + length c) zs
 check-before i c zs h =
     let e = char-before c zs h in
-    let s = h .some-byte in
+    let s = char-some c h in
     check-char i (c ++ zs) (omega arith) ∙ rw e (ap (check (i + length c)) (drop-append-seam c zs))
 
 -- ---- any bytes
@@ -84,7 +109,7 @@ module _ (bs : List ℕ) (h : 0 < charLen bs) where
       record {
         within = omega (arith, length-drop (charLen bs) bs);
         before = rw (take-add (charLen bs) p bs) (char (char-first bs h) (s .before));
-        no-char = ap charLen (sym (drop-drop p (charLen bs) bs)) ∙ s .no-char;
+        no-char = λ n. subst (λ (l : List ℕ). Char (take n l) → ⊥) (drop-drop p (charLen bs) bs) (s .no-char n);
       }
 
 -- characters throughout, or stuck somewhere
@@ -99,7 +124,7 @@ read-on n (b ∷ bs) h f =
         | inl o ↦ inl (more-whole (b ∷ bs) k o)
         | inr s ↦ inr (charLen (b ∷ bs) + s .0, more-stuck (b ∷ bs) k (s .0) (s .1))
       ]
-      | no k ↦ inr (0, record { within = omega arith; before = none; no-char = omega arith })
+      | no k ↦ inr (0, record { within = omega arith; before = none; no-char = no-char-here (b ∷ bs) (omega arith) })
     ]
 
 read-by : (n : ℕ) (bs : List ℕ) → length bs < n → Read bs

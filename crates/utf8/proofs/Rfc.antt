@@ -8,12 +8,12 @@ use lib.ListN.{length, getD, take, drop, length-append, length-drop, take-append
 use lib.Seq.{length-take-le}
 use Rattle.ground.specs.Least.{Least, Gives}
 use Rattle.ground.proofs.First.{gives-at, gives-none}
-use Rattle.utf8.specs.Utf8.{begins, rows, charLen, Char, Octets, Stuck, check}
+use Rattle.utf8.specs.Utf8.{rows, charLen, Char, Octets, Stuck, check}
 use Rattle.utf8.specs.Utf8.Octets.{none, char}
 use Rattle.utf8.specs.declared.Utf8.{Utf8}
 use Rattle.utf8.specs.declared.Utf8.the-variants.{WellFormed, IllFormed}
-use Rattle.utf8.proofs.Table.{left-one, taken-fits, taken-most}
-use Rattle.utf8.proofs.Chars.{same, check-before, check-stuck, check-end, Read, read}
+use Rattle.utf8.proofs.Table.{taken-fits, taken-most}
+use Rattle.utf8.proofs.Chars.{char-whole, char-some, nothing-taken, same, check-before, check-stuck, check-end, Read, read}
 
 -- What the table takes of any bytes is at most four of them, and lies within them.
 pub char-within : (bs : List ℕ) → (charLen bs ≤ 4) × (charLen bs ≤ length bs)
@@ -22,9 +22,8 @@ char-within bs = (taken-most 4 rows bs refl, taken-fits rows bs)
 -- A character has one to four bytes.
 pub char-size : {c : List ℕ} → Char c → (1 ≤ length c) × (length c ≤ 4)
 char-size {c} h =
-    let s = h .some-byte in
-    let e = h .whole in
-    (s, omega (arith, char-within c .0))
+    let e = char-whole c h in
+    (char-some c h, omega (arith, char-within c .0))
 
 -- Characters that stand in front are passed over: bytes that are cut between two characters are checked part by part.
 pub cut : (i : ℕ) {xs : List ℕ} (ys : List ℕ) → Octets xs → check i (xs ++ ys) ≡ check (i + length xs) ys
@@ -37,8 +36,7 @@ cut i ys (char {c = c} {bs = bs} h o) =
 
 -- A byte up to 7F is a character by itself.
 pub ascii-char : (b : ℕ) → b ≤ 0x7F → Char (b ∷ [])
-unfolding begins
-ascii-char b h = record { some-byte = omega arith; whole = left-one 0x00 0x80 b [] (omega arith) (omega arith) rows refl }
+ascii-char b h = record { matches = inl (omega arith, h, tt) }
 
 -- So bytes up to 7F are characters,
 pub ascii-octets : (xs : List ℕ) → ((k : ℕ) → k < length xs → getD xs k 0 ≤ 0x7F) → Octets xs
@@ -70,7 +68,7 @@ check-ill i {bs} {p} s =
     ap (check i) (sym (take-append-drop p bs))
     ∙ cut i (drop p bs) (s .before)
     ∙ same (i + length (take p bs)) (i + p) (drop p bs) (omega arith)
-    ∙ check-stuck (i + p) (drop p bs) (omega (arith, length-drop p bs)) (s .no-char)
+    ∙ check-stuck (i + p) (drop p bs) (omega (arith, length-drop p bs)) (nothing-taken (drop p bs) (s .no-char))
 
 never : (p : ℕ) → WellFormed ≡ IllFormed p → ⊥
 never p e = let z : _≡_ {A = ℕ} 0 1 = cc in omega arith

@@ -4,6 +4,7 @@ use Prim.Native.Nat.{ℕ, suc, _+_, _-_, _≤_, _<_}
 use mathlib.Core.Path.{_≡_, refl, sym, ap, _∙_, subst}
 use mathlib.Core.List.{List, [], _∷_, _++_}
 use mathlib.Core.Bool.{Bool, true, false}
+use mathlib.Core.Logic.{_⊎_, inl, inr}
 use native.Mathlib.Omega.{arith}
 use lib.ListN.{length, getD, drop}
 use lib.Dec.{T, leb, ltb}
@@ -11,7 +12,7 @@ use borrow.Author.Tests.{le-leb, lt-leb, leb-true, leb-false, ltb-false}
 use Rattle.ground.specs.Choose.{pick}
 use Rattle.ground.proofs.Choices.{pick-same}
 use Rattle.ground.proofs.Lists.{drop-next, drop-done}
-use Rattle.utf8.specs.Utf8.{Range, inRange, begins, taken}
+use Rattle.utf8.specs.Utf8.{Range, inRange, begins, taken, Matches, MatchesOne}
 
 -- ---- two tests
 
@@ -182,3 +183,68 @@ module _ (x y : List ℕ) (m : ℕ) (alike : (r : List Range) → length r ≤ m
           → pick b (length r) (taken t y) ≡ pick b (length r) (taken t x)
       go true h k f = refl
       go false h k f = f h k
+
+-- ---- a row that matches
+
+-- bytes that match a row are as many as its ranges, and begin with it
+pub matches-length : (r : List Range) (c : List ℕ) → Matches r c → length c ≡ length r
+matches-length [] [] m = refl
+matches-length [] (b ∷ bs) m = absurd m
+matches-length (r ∷ rs) [] m = absurd m
+matches-length (r ∷ rs) (b ∷ bs) m = ap suc (matches-length rs bs (m .2))
+
+matches-begins : (r : List Range) (c : List ℕ) → Matches r c → begins r c ≡ true
+unfolding begins
+matches-begins [] c m = refl
+matches-begins (r ∷ rs) [] m = absurd m
+matches-begins (r ∷ rs) (b ∷ bs) m = rw (in-range (r .0) (r .1) b (m .0) (m .1)) (matches-begins rs bs (m .2))
+
+-- and bytes that begin with a row of as many ranges match it
+begins-matches : (r : List Range) (c : List ℕ) → begins r c ≡ true → length c ≡ length r → Matches r c
+unfolding begins
+begins-matches [] [] e l = tt
+begins-matches [] (b ∷ bs) e l = absurd (omega arith)
+begins-matches (r ∷ rs) [] e l = absurd (omega arith)
+begins-matches (r ∷ rs) (b ∷ bs) e l =
+    let q = both (inRange r b) (begins rs bs) e in
+    let i = both (leb (r .0) b) (leb b (r .1)) (q .0) in
+    (leb-true (r .0) b (i .0), leb-true b (r .1) (i .1), begins-matches rs bs (q .1) (omega arith))
+
+-- of any table: bytes that are taken whole match a row
+pub taken-matches : (t : List (List Range)) (c : List ℕ) → 0 < length c → taken t c ≡ length c → MatchesOne t c
+unfolding taken
+taken-matches [] c h e = omega arith
+taken-matches (r ∷ t) c h e = go (begins r c) refl (taken-matches t c h) e
+  where
+    go : (m : Bool) → begins r c ≡ m → (taken t c ≡ length c → MatchesOne t c) → pick m (length r) (taken t c) ≡ length c
+        → Matches r c ⊎ MatchesOne t c
+    go true b f e = inl (begins-matches r c b (sym e))
+    go false b f e = inr (f e)
+
+-- the first range of each row of u leaves just that row of t
+abbrev pub Alone : List (List Range) → List (List Range) → Type 0
+Alone t [] = Unit {0}
+Alone t ([] ∷ u) = ⊥
+Alone t ((r ∷ rs) ∷ u) = (left t (r .0) (suc (r .1)) ≡ (r ∷ rs) ∷ []) × Alone t u
+
+-- then bytes that match a row are taken whole
+pub matches-taken : (t u : List (List Range)) (c : List ℕ) → Alone t u → MatchesOne u c → taken t c ≡ length c
+unfolding taken
+matches-taken t [] c a m = absurd m
+matches-taken t ([] ∷ u) c a m = absurd a
+matches-taken t ((r ∷ rs) ∷ u) c a (inl m) = one c m
+  where
+    one : (c : List ℕ) → Matches (r ∷ rs) c → taken t c ≡ length c
+    one [] m = absurd m
+    one (b ∷ bs) m =
+        left-same (r .0) (suc (r .1)) b bs (m .0) (omega (arith, m .1)) t
+        ∙ ap (λ (v : List (List Range)). taken v (b ∷ bs)) (a .0)
+        ∙ rw (matches-begins (r ∷ rs) (b ∷ bs) m) (sym (matches-length (r ∷ rs) (b ∷ bs) m))
+matches-taken t ((r ∷ rs) ∷ u) c a (inr m) = matches-taken t u c (a .1) m
+
+-- and no row matches nothing
+pub none-empty : (t u : List (List Range)) → Alone t u → MatchesOne u [] → ⊥
+none-empty t [] a m = m
+none-empty t ([] ∷ u) a m = a
+none-empty t ((r ∷ rs) ∷ u) a (inl m) = m
+none-empty t ((r ∷ rs) ∷ u) a (inr m) = none-empty t u (a .1) m

@@ -1,8 +1,8 @@
 -- Well-formed UTF-8: RFC 3629, section 4.
-use Prim.Native.Nat.{ℕ, zero, suc, _+_, _<_}
-use mathlib.Core.Path.{_≡_}
+use Prim.Native.Nat.{ℕ, zero, suc, _+_, _≤_, _<_}
 use mathlib.Core.List.{List, [], _∷_, _++_}
 use mathlib.Core.Bool.{Bool, true, false}
+use mathlib.Core.Logic.{_⊎_}
 use lib.ListN.{length, take, drop}
 use lib.Dec.{leb}
 use Rattle.ground.specs.Choose.{pick}
@@ -20,15 +20,19 @@ inRange r b = pick (leb (r .0) b) (leb b (r .1)) false
 abbrev pub tail : Range
 tail = (0x80, 0xBF)
 
--- UTF8-char = UTF8-1 / UTF8-2 / UTF8-3 / UTF8-4, row by row
+-- UTF8-char = UTF8-1 / UTF8-2 / UTF8-3 / UTF8-4: the rows of the RFC, each with its ranges
 abbrev pub rows : List (List Range)
 rows =
+    -- UTF8-1
     ((0x00, 0x7F) ∷ [])
+    -- UTF8-2
     ∷ ((0xC2, 0xDF) ∷ tail ∷ [])
+    -- UTF8-3
     ∷ ((0xE0, 0xE0) ∷ (0xA0, 0xBF) ∷ tail ∷ [])
     ∷ ((0xE1, 0xEC) ∷ tail ∷ tail ∷ [])
     ∷ ((0xED, 0xED) ∷ (0x80, 0x9F) ∷ tail ∷ [])
     ∷ ((0xEE, 0xEF) ∷ tail ∷ tail ∷ [])
+    -- UTF8-4
     ∷ ((0xF0, 0xF0) ∷ (0x90, 0xBF) ∷ tail ∷ tail ∷ [])
     ∷ ((0xF1, 0xF3) ∷ tail ∷ tail ∷ tail ∷ [])
     ∷ ((0xF4, 0xF4) ∷ (0x80, 0x8F) ∷ tail ∷ tail ∷ [])
@@ -49,10 +53,38 @@ taken (r ∷ rs) bs = pick (begins r bs) (length r) (taken rs bs)
 abbrev pub charLen : List ℕ → ℕ
 charLen bs = taken rows bs
 
--- a UTF8-char: bytes that a row takes whole
+-- what comes of a character of n bytes at i: with none the bytes are ill formed there, else n - 1 bytes more belong to it
+abbrev pub atChar : ℕ → ℕ → (ℕ → Utf8) → Utf8
+atChar zero i pass = IllFormed i
+atChar (suc k) i pass = pass k
+
+-- bytes that start at position i, of which the first k belong to a character that was taken already
+unfoldable pub checkFrom : ℕ → ℕ → List ℕ → Utf8
+checkFrom k i [] = WellFormed
+checkFrom (suc k) i (b ∷ bs) = checkFrom k (i + 1) bs
+checkFrom zero i (b ∷ bs) = atChar (charLen (b ∷ bs)) i (λ k. checkFrom k (i + 1) bs)
+
+-- the check of bytes that start at position i
+abbrev pub check : ℕ → List ℕ → Utf8
+check i bs = checkFrom 0 i bs
+
+-- ---- the same in the RFC's words
+
+-- a byte of each range in turn, and no more
+abbrev pub Matches : List Range → List ℕ → Type 0
+Matches [] [] = Unit {0}
+Matches [] (b ∷ bs) = ⊥
+Matches (r ∷ rs) [] = ⊥
+Matches (r ∷ rs) (b ∷ bs) = (r .0 ≤ b) × (b ≤ r .1) × Matches rs bs
+
+-- the bytes match a row
+abbrev pub MatchesOne : List (List Range) → List ℕ → Type 0
+MatchesOne [] c = ⊥
+MatchesOne (r ∷ rs) c = Matches r c ⊎ MatchesOne rs c
+
+-- UTF8-char
 pub record Char (c : List ℕ) : Type 0 where
-  pub some-byte : 0 < length c
-  pub whole : charLen c ≡ length c
+  pub matches : MatchesOne rows c
 
 -- UTF8-octets = *( UTF8-char )
 pub data Octets : List ℕ → Type 0 where
@@ -63,18 +95,4 @@ pub data Octets : List ℕ → Type 0 where
 pub record Stuck (bs : List ℕ) (p : ℕ) : Type 0 where
   pub within : p < length bs
   pub before : Octets (take p bs)
-  pub no-char : charLen (drop p bs) ≡ 0
-
--- bytes that start at position i, of which the first k belong to a character that was taken already
-abbrev pub after : ℕ → ℕ → (ℕ → Utf8) → Utf8
-after zero i go-on = IllFormed i
-after (suc k) i go-on = go-on k
-
-unfoldable pub checkFrom : ℕ → ℕ → List ℕ → Utf8
-checkFrom k i [] = WellFormed
-checkFrom (suc k) i (b ∷ bs) = checkFrom k (i + 1) bs
-checkFrom zero i (b ∷ bs) = after (charLen (b ∷ bs)) i (λ k. checkFrom k (i + 1) bs)
-
--- the check of bytes that start at position i
-abbrev pub check : ℕ → List ℕ → Utf8
-check i bs = checkFrom 0 i bs
+  pub no-char : (n : ℕ) → Char (take n (drop p bs)) → ⊥

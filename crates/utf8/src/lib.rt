@@ -7,7 +7,8 @@ ghost use Rattle.ground.specs.Choose.{pick};
 ghost use Rattle.ground.specs.Part.{part as partOf};
 ghost use Rattle.utf8.specs.Utf8.{tail, begins, charLen, check as checkOf};
 
-// What the check says of bytes: all are well formed, or the first position from which no well-formed character starts.
+// What the check says of bytes: all are well formed, or where the first ill-formed sequence begins. No well-formed character starts there, and all before it
+// is well formed.
 pub enum Utf8 {
     WellFormed,
     IllFormed(usize),

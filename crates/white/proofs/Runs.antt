@@ -1,7 +1,7 @@
 -- The runs of specs/White at a position of a list, and the turns and the ends of the loops that follow them. Assumes nothing.
 use Prim.Native.Nat.{ℕ, zero, suc, _+_, _-_, _^_, _≤_, _<_}
 use mathlib.Core.Path.{_≡_, refl, sym, ap, _∙_}
-use mathlib.Core.List.{List}
+use mathlib.Core.List.{List, [], _∷_}
 use mathlib.Core.Bool.{Bool, true, false, not}
 use native.Mathlib.Numerals.{sub-one}
 use native.Mathlib.Omega.{arith}
@@ -10,8 +10,8 @@ use mir.Val.{Fits}
 use mir.Syntax.{w64}
 use borrow.Author.Tests.{not-true, not-false}
 use borrow.Author.Needs.{needs}
-use Rattle.ground.specs.Choose.{pick}
 use Rattle.ground.specs.Part.{part}
+use Rattle.ground.proofs.Choices.{pick-cases}
 use Rattle.ground.proofs.Lists.{drop-next, drop-done, part-end}
 use Rattle.white.specs.White.{isWhite, notWhite, until, keptOf, kept}
 
@@ -52,17 +52,17 @@ module _ (s : List ℕ) (n i : ℕ) (x : Bool) (h : i < length s) (q : x ≡ isW
     name-turn e = run-turn isWhite s n i v h (sym q ∙ e)
 
   module _ (v : n ≡ i + until notWhite (drop i s)) where
-    pub skip-here : not x ≡ true → i ≡ n
-    skip-here e = run-here notWhite s n i v h (ap not (sym q) ∙ e)
+    pub lead-here : not x ≡ true → i ≡ n
+    lead-here e = run-here notWhite s n i v h (ap not (sym q) ∙ e)
 
-    pub skip-turn : not x ≡ false → n ≡ i + 1 + until notWhite (drop (i + 1) s)
-    skip-turn e = run-turn notWhite s n i v h (ap not (sym q) ∙ e)
+    pub lead-turn : not x ≡ false → n ≡ i + 1 + until notWhite (drop (i + 1) s)
+    lead-turn e = run-turn notWhite s n i v h (ap not (sym q) ∙ e)
 
 -- a loop over the part p that starts at its first byte
 pub run-start : (test : ℕ → Bool) (p s : List ℕ) → s ≡ p → until test p ≡ 0 + until test (drop 0 s)
 run-start test p s e = omega (arith, ap (until test) e)
 
-pub ruleset runs = (needs, run-start, run-past, name-here, name-turn, skip-here, skip-turn)
+pub ruleset until-turns = (needs, run-start, run-past, name-here, name-turn, lead-here, lead-turn)
 
 -- ---- cutting white space back from the end
 
@@ -93,24 +93,24 @@ module _ (s : List ℕ) (n e : ℕ) (v : n ≡ keptOf s e) where
     pub cut-turn : not x ≡ false → n ≡ keptOf s (e - 1)
     cut-turn f = v ∙ kept-less s e h (sym q ∙ not-false x f)
 
-pub ruleset cuts = (needs, cut-none, cut-here, cut-turn)
+pub ruleset cut-turns = (needs, cut-none, cut-here, cut-turn)
 
--- ---- the span that is left: its end is a number that the machine holds, whatever the span
+-- ---- a count of bytes in front of a span, as a position of the slice, whatever the span
+
+pub until-within : (test : ℕ → Bool) (bs : List ℕ) → until test bs ≤ length bs
+unfolding until
+until-within test [] = omega arith
+until-within test (b ∷ bs) = pick-cases (λ (n : ℕ). n ≤ suc (length bs)) (test b) _ _ (λ e. omega arith) (λ e. omega (arith, until-within test bs))
 
 pub kept-within : (s : List ℕ) (n : ℕ) → keptOf s n ≤ n
 unfolding keptOf
 kept-within s zero = omega arith
-kept-within s (suc n) = either (isWhite (getD s n 0)) (kept-within s n)
-  where
-    either : (x : Bool) → keptOf s n ≤ n → pick x (keptOf s n) (suc n) ≤ suc n
-    either true h = omega arith
-    either false h = omega arith
+kept-within s (suc n) = pick-cases (λ (k : ℕ). k ≤ suc n) (isWhite (getD s n 0)) _ _ (λ e. omega (arith, kept-within s n)) (λ e. omega arith)
 
-module _ (s bs : List ℕ) (from to n : ℕ) (e : n ≡ kept bs) (f : bs ≡ part s from to) where
-  pub trim-fits : from < 2 ^ 64 → to < 2 ^ 64 → Fits w64 (from + n)
-  trim-fits h k = record { fits = omega (arith, kept-within bs (length bs), part-end s from to, ap length f) }
+module _ (count : List ℕ → ℕ) (within : (bs : List ℕ) → count bs ≤ length bs) where
+  module _ (s bs : List ℕ) (from to n : ℕ) (e : n ≡ count bs) (f : bs ≡ part s from to) where
+    pub trim-fits : from < 2 ^ 64 → to < 2 ^ 64 → Fits w64 (from + n)
+    trim-fits h k = record { fits = omega (arith, within bs, part-end s from to, ap length f) }
 
-  pub trim-is : from + n ≡ from + kept (part s from to)
-  trim-is = rw (← f) (ap (λ (k : ℕ). from + k) e)
-
-pub ruleset trims = (needs, trim-fits, trim-is)
+    pub trim-is : from + n ≡ from + count (part s from to)
+    trim-is = rw (← f) (ap (λ (k : ℕ). from + k) e)

@@ -3,30 +3,28 @@
 use Prim.Native.Nat.{ℕ, zero, suc, _+_, _-_, _≤_, _<_}
 use mathlib.Core.Path.{_≡_, refl, sym, ap, _∙_}
 use mathlib.Core.List.{List, [], _∷_}
-use mathlib.Core.Bool.{Bool, true, false, not}
+use mathlib.Core.Bool.{Bool, true, false}
 use mathlib.Core.Logic.{_⊎_, inl, inr, ⊎-elim}
 use native.Mathlib.Numerals.{add-one}
 use native.Mathlib.Omega.{arith}
 use native.Mathlib.Decide.{decLt}
-use lib.ListN.{length, getD, drop, length-drop}
-use lib.Seq.{getD-drop}
+use lib.ListN.{length, getD}
 use Rattle.ground.specs.Choose.{pick}
 use Rattle.ground.specs.Least.{Least}
 use Rattle.ground.proofs.Choices.{clash}
 use Rattle.white.proofs.Runs.{kept-within}
-use Rattle.white.specs.White.{isWhite, notWhite, until, nameLen, pastWhite, keptOf, kept, NameEnds, WhiteFrom, NotWhiteAt}
+use Rattle.white.specs.White.{isWhite, notWhite, until, nameLen, leading, keptOf, kept, EndsAt, WhiteFrom}
 
 -- ---- the first byte that passes a test
 
 module _ (test : ℕ → Bool) where
   -- there is one at `until`, or the bytes end there
-  until-at : (bs : List ℕ) → (until test bs ≡ length bs) ⊎ ((until test bs < length bs) × (test (getD bs (until test bs) 0) ≡ true))
+  until-at : (bs : List ℕ) → EndsAt test bs (until test bs)
   unfolding until
   until-at [] = inl refl
   until-at (b ∷ bs) = by (test b) refl (until-at bs)
     where
-      by : (x : Bool) → test b ≡ x → (until test bs ≡ length bs) ⊎ ((until test bs < length bs) × (test (getD bs (until test bs) 0) ≡ true))
-          → (pick x 0 (until test bs + 1) ≡ suc (length bs)) ⊎ ((pick x 0 (until test bs + 1) < suc (length bs)) × (test (getD (b ∷ bs) (pick x 0 (until test bs + 1)) 0) ≡ true))
+      by : (x : Bool) → test b ≡ x → EndsAt test bs (until test bs) → EndsAt test (b ∷ bs) (pick x 0 (until test bs + 1))
       by true e r = inr (omega arith, e)
       by false e r =
           ⊎-elim (λ h. inl (omega arith))
@@ -44,30 +42,20 @@ module _ (test : ℕ → Bool) where
       by false e r zero h = (omega arith, e)
       by false e r (suc k) h = let g = r k (omega arith) in (omega arith, g .1)
 
--- the name length is the least position at which white space stands or the bytes end
-pub name-len-least : (bs : List ℕ) → Least (NameEnds bs) (nameLen bs)
-name-len-least bs =
+until-least : (test : ℕ → Bool) (bs : List ℕ) → Least (EndsAt test bs) (until test bs)
+until-least test bs =
     record {
-      has = until-at isWhite bs;
-      before = λ k h. let g = until-before isWhite bs k h in ⊎-elim (λ e. omega arith) (λ w. clash _ (w .1) (g .1));
+      has = until-at test bs;
+      before = λ k h. let g = until-before test bs k h in ⊎-elim (λ e. omega arith) (λ w. clash (test (getD bs k 0)) (w .1) (g .1));
     }
 
--- skipping white space comes to the least position from `from` on at which no white space stands
-pub skip-least : (s : List ℕ) (from : ℕ) → Least (NotWhiteAt s from) (pastWhite s from)
-skip-least s from =
-    record {
-      has = (
-        omega arith,
-        λ h. ⊎-elim
-            (λ e. absurd (omega (arith, length-drop from s)))
-            (λ w. sym (ap notWhite (getD-drop from s (until notWhite (drop from s)) 0)) ∙ w .1)
-            (until-at notWhite (drop from s)),
-      );
-      before = λ k h p.
-          let g = until-before notWhite (drop from s) (k - from) (omega arith) in
-          clash _ (p .1 (omega (arith, length-drop from s)))
-          (ap (λ (n : ℕ). notWhite (getD s n 0)) (omega arith) ∙ sym (ap notWhite (getD-drop from s (k - from) 0)) ∙ g .1);
-    }
+-- the name length is the least position at which white space stands or the bytes end
+pub name-len-least : (bs : List ℕ) → Least (EndsAt isWhite bs) (nameLen bs)
+name-len-least bs = until-least isWhite bs
+
+-- leading white space ends at the least position at which another byte stands or the bytes end
+pub leading-least : (bs : List ℕ) → Least (EndsAt notWhite bs) (leading bs)
+leading-least bs = until-least notWhite bs
 
 -- ---- trailing white space
 

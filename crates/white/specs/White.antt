@@ -4,7 +4,7 @@ use mathlib.Core.Path.{_≡_}
 use mathlib.Core.List.{List, [], _∷_}
 use mathlib.Core.Bool.{Bool, true, false, not}
 use mathlib.Core.Logic.{_⊎_}
-use lib.ListN.{length, getD, drop}
+use lib.ListN.{length, getD}
 use lib.Dec.{eqb}
 use Rattle.ground.specs.Choose.{pick}
 use Rattle.ground.specs.Bytes.{tab, lf, cr, space}
@@ -25,9 +25,9 @@ until test (b ∷ bs) = pick (test b) 0 (until test bs + 1)
 abbrev pub nameLen : List ℕ → ℕ
 nameLen bs = until isWhite bs
 
--- the position after the white space that stands from `from` on
-abbrev pub pastWhite : List ℕ → ℕ → ℕ
-pastWhite s from = from + until notWhite (drop from s)
+-- how many bytes of white space stand in front
+abbrev pub leading : List ℕ → ℕ
+leading bs = until notWhite bs
 
 -- how many of the first n bytes are left when white space is cut from their end
 unfoldable pub keptOf : List ℕ → ℕ → ℕ
@@ -40,14 +40,10 @@ kept bs = keptOf bs (length bs)
 
 -- ---- the same in words
 
--- the bytes end at n, or white space stands there
-abbrev pub NameEnds : List ℕ → ℕ → Type 0
-NameEnds bs n = (n ≡ length bs) ⊎ ((n < length bs) × (isWhite (getD bs n 0) ≡ true))
+-- the bytes end at n, or a byte stands there that passes the test
+abbrev pub EndsAt : (ℕ → Bool) → List ℕ → ℕ → Type 0
+EndsAt test bs n = (n ≡ length bs) ⊎ ((n < length bs) × (test (getD bs n 0) ≡ true))
 
 -- from n on only white space stands
 abbrev pub WhiteFrom : List ℕ → ℕ → Type 0
 WhiteFrom bs n = (k : ℕ) → n ≤ k → k < length bs → isWhite (getD bs k 0) ≡ true
-
--- from `from` on, the bytes have ended at p, or a byte stands there that is not white space
-abbrev pub NotWhiteAt : List ℕ → ℕ → ℕ → Type 0
-NotWhiteAt s from p = (from ≤ p) × (p < length s → notWhite (getD s p 0) ≡ true)

@@ -2,7 +2,7 @@
 ghost use mathlib.Core.Path.{_≡_};
 ghost use Prim.Native.Nat.{_+_};
 ghost use Rattle.ground.specs.Part.{part as partOf};
-ghost use Rattle.white.specs.White.{isWhite, nameLen, kept, pastWhite};
+ghost use Rattle.white.specs.White.{isWhite, nameLen, leading, kept};
 
 // Whether a byte is white space: space, tab, LF or CR.
 pub fn is_whitespace(b: u8) -> bool
@@ -32,6 +32,29 @@ pub fn name_len(s: &[u8], from: usize, to: usize) -> usize
     i
 }
 
+// Where the span `from` .. `to` begins once its leading white space is cut: at its first byte that is not white space, or at its end where there
+// is none. A span that does not lie in the slice begins at `from`.
+pub fn trim_start(s: &[u8], from: usize, to: usize) -> usize
+    ensures { λ r. ⌜ r ≡ from + leading (partOf (now (s .entry)) from to) ⌝ }
+{
+    let content = ground::part(s, from, to);
+    from + leading_len(content)
+}
+
+// How many bytes of white space stand in front.
+fn leading_len(s: &[u8]) -> usize
+    ensures { λ r. ⌜ r ≡ leading (now (s .entry)) ⌝ }
+{
+    let mut i = 0;
+    while i < s.len() {
+        if !is_whitespace(s[i]) {
+            break;
+        }
+        i += 1;
+    }
+    i
+}
+
 // Where the span `from` .. `to` ends once its trailing white space is cut: after its last byte that is not white space, or at `from` where
 // there is none. So too for a span that does not lie in the slice.
 pub fn trim_end(s: &[u8], from: usize, to: usize) -> usize
@@ -53,18 +76,4 @@ fn kept_len(s: &[u8]) -> usize
         e -= 1;
     }
     e
-}
-
-// The first position from `from` on with a byte that is not white space, or the slice's end. A place past the end is its own answer.
-pub fn skip_whitespace(s: &[u8], from: usize) -> usize
-    ensures { λ r. ⌜ r ≡ pastWhite (now (s .entry)) from ⌝ }
-{
-    let mut i = from;
-    while i < s.len() {
-        if !is_whitespace(s[i]) {
-            break;
-        }
-        i += 1;
-    }
-    i
 }

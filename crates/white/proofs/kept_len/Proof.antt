@@ -3,7 +3,7 @@ use Prim.Native.Nat.{_≤_}
 use mathlib.Core.Path.{_≡_}
 use lib.ListN.{length}
 use Rattle.white.specs.White.{keptOf, kept}
-use Rattle.white.proofs.Runs.{cuts}
+use Rattle.white.proofs.Runs.{cut-turns}
 use Rattle.white.proofs.kept_len.Statement.{statement}
 use Rattle.white.proofs.kept_len.Tie as tie
 
@@ -19,12 +19,12 @@ kept-len-spec =
     (tie.spec
     Inv-loop
     μ-loop
-    (λ c. search cuts)
-    (λ c. search cuts)
-    (λ c. search cuts)
-    (λ c κs. search cuts)
-    (λ c. search cuts)
-    (λ c. search cuts)
-    (λ c. search cuts)
-    (λ c. search cuts)
-    (λ c. search cuts))
+    (λ c. search cut-turns)
+    (λ c. search cut-turns)
+    (λ c. search cut-turns)
+    (λ c κs. search cut-turns)
+    (λ c. search cut-turns)
+    (λ c. search cut-turns)
+    (λ c. search cut-turns)
+    (λ c. search cut-turns)
+    (λ c. search cut-turns))
