@@ -5,8 +5,12 @@ use crate::line::number;
 use crate::line::say;
 use crate::line::say_number;
 
-// Writes the answer behind the line, if it names a function.
+// Writes the answer behind the line, if it names a function. A line of more than 4,096 bytes gets none.
 pub fn answer(text: &[u8]) {
+    if 4096 < text.len() {
+        say(b" = too long");
+        return;
+    }
     let end = find(text, 0, b' ');
     let name = ground::part(text, 0, end);
     let from = number(text, end);
@@ -28,8 +32,8 @@ fn bounds(name: &[u8], s: &[u8], from: usize, to: usize) {
         say_number(b" =", white::name_len(s, from, to));
     } else if check::same(name, b"trim_end") {
         say_number(b" =", white::trim_end(s, from, to));
-    } else if check::same(name, b"skip_whitespace") {
-        say_number(b" =", white::skip_whitespace(s, from));
+    } else if check::same(name, b"trim_start") {
+        say_number(b" =", white::trim_start(s, from, to));
     } else if check::same(name, b"utf8") {
         say_utf8(utf8::check(s, from, to));
     }

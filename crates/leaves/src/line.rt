@@ -26,8 +26,8 @@ pub struct Read {
     pub next: usize,
 }
 
-// The decimal number after the space at `from`, and the position of the space after it, or the end. A number that is too large for 64 bits is the
-// largest that is not; one with no digit is 0.
+// The decimal number after the space at `from`, and the position of the space after it, or the end. Other bytes than digits are passed over, so `-` is 0. A
+// number that is too large for 64 bits is the largest that is not.
 pub fn number(s: &[u8], from: usize) -> Read {
     let mut value = 0;
     let mut i = from;
@@ -47,6 +47,9 @@ pub fn number(s: &[u8], from: usize) -> Read {
 
 fn with_digit(value: usize, b: u8) -> usize {
     let digit = digit_of(b);
+    if 9 < digit {
+        return value;
+    }
     if 1_844_674_407_370_955_160 < value {
         return 18_446_744_073_709_551_615;
     }
@@ -57,14 +60,15 @@ fn with_digit(value: usize, b: u8) -> usize {
     tens + digit
 }
 
-// What a digit stands for; 0 for any other byte.
+// What a hexadecimal digit stands for, and 16 for any other byte.
 fn digit_of(b: u8) -> usize
-    ensures { λ r. ⌜ r ≤ 15 ⌝ }
+    ensures { λ r. ⌜ r ≤ 16 ⌝ }
 {
     match b {
         b'0'..=b'9' => (b - b'0') as usize,
         b'A'..=b'F' => (b - b'A') as usize + 10,
-        _ => 0,
+        b'a'..=b'f' => (b - b'a') as usize + 10,
+        _ => 16,
     }
 }
 
@@ -89,7 +93,7 @@ pub fn bytes(s: &[u8], from: usize, out: &mut [u8]) -> usize
     n
 }
 
-// How many digits stand after the byte at `at`: two after `\`, where there are as many bytes.
+// How many digits belong to the byte at `at`: two where it is `\` and hexadecimal digits follow.
 fn digits_after(s: &[u8], at: usize) -> usize
     requires { ⌜ at < length (now s) ⌝ }
     ensures { λ r. ⌜ at + r < length (now (s .entry)) ⌝ }
@@ -98,6 +102,12 @@ fn digits_after(s: &[u8], at: usize) -> usize
         return 0;
     }
     if s.len() - at <= 2 {
+        return 0;
+    }
+    if 15 < digit_of(s[at + 1]) {
+        return 0;
+    }
+    if 15 < digit_of(s[at + 2]) {
         return 0;
     }
     2
@@ -111,7 +121,7 @@ fn byte(s: &[u8], at: usize) -> u8
     if n == 0 {
         return s[at];
     }
-    (digit_of(s[at + n - 1]) * 16 + digit_of(s[at + n])) as u8
+    ((digit_of(s[at + n - 1]) * 16 + digit_of(s[at + n])) % 256) as u8
 }
 
 // Writes text.

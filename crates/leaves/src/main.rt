@@ -1,5 +1,6 @@
 // Runs the leaves on cases from standard input, a case to a line, and writes each line with the answer behind it. A line has a function's name, its
-// numbers and, last, bytes up to the line's end, where `\` and two hexadecimal digits stand for a byte. A line with another name is written as it is.
+// numbers and, last, bytes up to the line's end, where `\` and two hexadecimal digits stand for a byte. A line with another name is written as it is. The cases
+// together have fewer than 65,536 bytes.
 mod answers;
 mod line;
 
@@ -8,6 +9,10 @@ use libc::STDIN_FILENO;
 fn main() {
     let mut buffer = io::large_buffer();
     let n = io::read_full(STDIN_FILENO, &mut buffer);
+    if 65536 <= n {
+        line::say(b"too long\n");
+        return;
+    }
     run(&buffer[..n]);
 }
 

@@ -1,8 +1,9 @@
 -- What a scan finds, in words, once for every machine: given what a state means at a position and what each byte then does, the scan stops at the
 -- least position with the property, or goes to the end and there is none. Assumes nothing.
 use Prim.Native.Nat.{ℕ, zero, suc, _+_, _≤_, _<_}
-use mathlib.Core.Path.{_≡_, refl, sym, subst}
+use mathlib.Core.Path.{_≡_, refl, sym, ap, subst}
 use mathlib.Core.List.{List}
+use mathlib.Core.Logic.{_↔_}
 use native.Mathlib.Omega.{arith}
 use native.Mathlib.Decide.{decLt}
 use lib.ListN.{length, getD}
@@ -51,8 +52,18 @@ module _ {S : Type 0} (step : S → ℕ → Next S) (a : List ℕ) (P : ℕ → 
     tells s i = tells-in (length a) s i (omega arith)
 
 -- as an answer in the form `out`
-module _ {S A : Type 0} (step : S → ℕ → Next S) (a : List ℕ) (P : ℕ → Type 0) (Means : S → ℕ → Type 0)
-    (out : Scan S → A) (one : (p q : ℕ) → out (found p) ≡ out (found q) → p ≡ q) (other : (t : S) (p : ℕ) → out (going t) ≡ out (found p) → ⊥) where
-  pub tells-gives : (r : Scan S) → Tells step a P Means r → Gives (λ p. out (found p)) (out r) P
-  tells-gives (found p) l = gives-at (λ p. out (found p)) one P p l
-  tells-gives (going t) w = gives-none (λ p. out (found p)) one P (out (going t)) (other t) (w .0)
+module _ {S A : Type 0} (step : S → ℕ → Next S) (a : List ℕ) (P : ℕ → Type 0) (Means : S → ℕ → Type 0) (out : Scan S → A)
+    (other : (t : S) (p : ℕ) → out (going t) ≡ out (found p) → ⊥) where
+  pub tells-gives : ((p q : ℕ) → out (found p) ≡ out (found q) → p ≡ q)
+      → (r : Scan S) → Tells step a P Means r → Gives (λ p. out (found p)) (out r) P
+  tells-gives one (found p) l = gives-at (λ p. out (found p)) one P p l
+  tells-gives one (going t) w = gives-none (λ p. out (found p)) one P (out (going t)) (other t) (w .0)
+
+  -- the state in which the bytes end, where `Ends` says what it means there and fits one state only
+  module _ (one : (t u : S) → out (going t) ≡ out (going u) → t ≡ u) (Ends : S → Type 0)
+      (ends : (t : S) (e : ℕ) → length a ≤ e → Means t e → Ends t) (only : (t u : S) → Ends t → Ends u → t ≡ u) where
+    pub tells-open : (t : S) (r : Scan S) → Tells step a P Means r → (out r ≡ out (going t)) ↔ (Nowhere P × Ends t)
+    tells-open t (found p) l = (λ e. absurd (other t p (sym e)), λ w. absurd (w .0 p (l .has)))
+    tells-open t (going u) w =
+        let x = ends u (w .1 .0) (w .1 .1) (w .1 .2) in
+        (λ e. (w .0, subst Ends (one u t e) x), λ v. ap (λ (y : S). out (going y)) (only u t x (v .1)))

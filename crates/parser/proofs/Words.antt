@@ -17,16 +17,17 @@ use Rattle.ground.proofs.Choices.{pick-cases, clash}
 use Rattle.ground.proofs.Lists.{part-in, take-next}
 use Rattle.parser.specs.Machine.{Next, go, Scan, found, going, scanAt}
 use Rattle.parser.specs.Element.{elementStep, elementAnswer, elementFound, IsQuote, OutsideQuotes, at-first, plain, WithinQuote, LeavesIn, TagEnd}
-use Rattle.parser.specs.Marks.{marksStep, marksAnswer, marksFound, piFound, commentFound, cdataFound, passing, MarkedEnd, PiEnd, CommentEnd, CDataEnd}
+use Rattle.parser.specs.Marks.{marksStep, marksAnswer, marksFound, piFound, commentFound, cdataFound, passing, MarkedEnd, MarksLeft, PiEnd, CommentEnd, CDataEnd}
 use Rattle.parser.specs.First.{firstStep, firstAnswer, firstFound, oneOf, textEnds, textFound, referenceEnds, referenceFound, Among, ByteAmong, TextEnd, ReferenceEnd}
 use Rattle.parser.specs.declared.element.ElementState.{ElementState}
 use Rattle.parser.specs.declared.element.ElementState.the-variants.{Outside, SingleQ, DoubleQ}
 use Rattle.parser.specs.declared.element.Found.the-variants.{At, Open}
-use Rattle.parser.specs.declared.marks.Found.the-variants.{At as MarkedAt}
-use Rattle.parser.specs.declared.first.Found.the-variants.{At as FirstAt}
-use Rattle.parser.proofs.Outcome.{Meets, Tells, tells, tells-gives}
+use Rattle.parser.specs.declared.marks.Marks.{Marks}
+use Rattle.parser.specs.declared.marks.Found.the-variants.{At as MarkedAt, Open as MarkedOpen}
+use Rattle.parser.specs.declared.first.Found.the-variants.{At as FirstAt, End}
+use Rattle.parser.proofs.Outcome.{Meets, Tells, tells, tells-gives, tells-open}
 use Rattle.parser.proofs.Quotes.{opens, closes, stays, leaves-one}
-use Rattle.parser.proofs.Counts.{Counts, counts-meets, counts-start}
+use Rattle.parser.proofs.Counts.{Counts, counts-meets, counts-start, counts-end, left-one}
 
 -- ---- tags
 
@@ -99,47 +100,57 @@ module _ (s : List ℕ) (from : ℕ) where
   -- the first `>` outside quotes
   pub element-gives : Gives At (elementFound s from) (TagEnd s from)
   element-gives =
-      tells-gives elementStep s (TagEnd s from) Means elementAnswer (λ p q e. cc) (λ t p e. let z : _≡_ {A = ℕ} 0 1 = cc in omega arith)
+      tells-gives elementStep s (TagEnd s from) Means elementAnswer (λ t p e. let z : _≡_ {A = ℕ} 0 1 = cc in omega arith) (λ p q e. cc)
       (scanAt elementStep Outside s from) element-tells
 
   -- the bytes end with none: outside quotes, within `'` or within `"`
   pub element-open : (q : ElementState) → (elementFound s from ≡ Open q) ↔ (Nowhere (TagEnd s from) × LeavesIn q (drop from s))
-  element-open q = by (scanAt elementStep Outside s from) element-tells
-    where
-      by : (r : Scan ElementState) → Tells elementStep s (TagEnd s from) Means r
-          → (elementAnswer r ≡ Open q) ↔ (Nowhere (TagEnd s from) × LeavesIn q (drop from s))
-      by (found p) l = (λ e. let z : _≡_ {A = ℕ} 0 1 = cc in absurd (omega arith), λ w. absurd (w .0 p (l .has)))
-      by (going t) w =
-          let whole = take-all (w .1 .0 - from) (drop from s) (omega (arith, w .1 .1, length-drop from s)) in
-          let left = subst (LeavesIn t) whole (w .1 .2 .1) in (
-            λ e. let same : t ≡ q = cc in (w .0, subst (λ (x : ElementState). LeavesIn x (drop from s)) same left),
-            λ v. ap Open (leaves-one t q (drop from s) left (v .1)),
-          )
+  element-open q =
+      tells-open elementStep s (TagEnd s from) Means elementAnswer (λ t p e. let z : _≡_ {A = ℕ} 0 1 = cc in omega arith) (λ t u e. cc)
+      (λ t. LeavesIn t (drop from s))
+      (λ t e h m. subst (LeavesIn t) (take-all (e - from) (drop from s) (omega (arith, length-drop from s))) (m .1))
+      (λ t u x y. leaves-one t u (drop from s) x y)
+      q (scanAt elementStep Outside s from) element-tells
 
 -- ---- processing instructions, comments and CDATA
 
-module _ (s : List ℕ) (from : ℕ) where
-  marks-gives : (opener mark need : ℕ) → (mark ≡ gt → ⊥)
-      → Gives MarkedAt (marksFound opener mark need s from) (MarkedEnd mark need (opener + need) s from)
-  marks-gives opener mark need other =
-      let P = MarkedEnd mark need (opener + need) s from in
-      let C = Counts mark need opener s from in
-      tells-gives (marksStep mark need) s P C marksAnswer (λ p q e. cc) (λ t p e. let z : _≡_ {A = ℕ} 0 1 = cc in omega arith)
-      (scanAt (marksStep mark need) (passing opener) s from)
-      (tells (marksStep mark need) s P C (λ p q. q .within) (counts-meets mark need opener s from other) (passing opener) from
-      (counts-start mark need opener s from) (λ k h p. omega (arith, p .after)))
+module _ (s : List ℕ) (from opener mark need : ℕ) (other : mark ≡ gt → ⊥) where
+  abbrev Closes : ℕ → Type 0
+  Closes = MarkedEnd mark need (opener + need) s from
 
+  abbrev Counted : Marks → ℕ → Type 0
+  Counted = Counts mark need opener s from
+
+  marks-tells : Tells (marksStep mark need) s Closes Counted (scanAt (marksStep mark need) (passing opener) s from)
+  marks-tells =
+      tells (marksStep mark need) s Closes Counted (λ p q. q .within) (counts-meets mark need opener s from other) (passing opener) from
+      (counts-start mark need opener s from) (λ k h p. omega (arith, p .after))
+
+  -- the first `>` with its marks just before, for any mark but `>`
+  pub marks-gives : Gives MarkedAt (marksFound opener mark need s from) Closes
+  marks-gives =
+      tells-gives (marksStep mark need) s Closes Counted marksAnswer (λ t p e. let z : _≡_ {A = ℕ} 0 1 = cc in omega arith) (λ p q e. cc)
+      (scanAt (marksStep mark need) (passing opener) s from) marks-tells
+
+  -- the bytes end with none: so much of the opener is left, and so many marks stand at the end
+  pub marks-open : (m : Marks) → (marksFound opener mark need s from ≡ MarkedOpen m) ↔ (Nowhere Closes × MarksLeft mark need opener s from m)
+  marks-open m =
+      tells-open (marksStep mark need) s Closes Counted marksAnswer (λ t p e. let z : _≡_ {A = ℕ} 0 1 = cc in omega arith) (λ t u e. cc)
+      (MarksLeft mark need opener s from) (counts-end mark need opener s from) (left-one mark need opener s from)
+      m (scanAt (marksStep mark need) (passing opener) s from) marks-tells
+
+module _ (s : List ℕ) (from : ℕ) where
   -- the first `>` with a `?` just before
   pub pi-gives : Gives MarkedAt (piFound s from) (PiEnd s from)
-  pi-gives = marks-gives 0 question 1 (λ e. omega arith)
+  pi-gives = marks-gives s from 0 question 1 (λ e. omega arith)
 
   -- the first `>` at offset 6 or more with `--` just before
   pub comment-gives : Gives MarkedAt (commentFound s from) (CommentEnd s from)
-  comment-gives = marks-gives 4 hyphen 2 (λ e. omega arith)
+  comment-gives = marks-gives s from 4 hyphen 2 (λ e. omega arith)
 
   -- the first `>` with `]]` just before
   pub cdata-gives : Gives MarkedAt (cdataFound s from) (CDataEnd s from)
-  cdata-gives = marks-gives 0 closeBracket 2 (λ e. omega arith)
+  cdata-gives = marks-gives s from 0 closeBracket 2 (λ e. omega arith)
 
 -- ---- text and references
 
@@ -170,16 +181,35 @@ module _ (ks s : List ℕ) (from : ℕ) where
       (λ x. record { after = m; within = h; among = one-of ks (getD s i 0) x })
       (λ x. (λ p. not-one-of ks (getD s i 0) x (p .among), omega arith))
 
-  first-gives : Gives FirstAt (firstFound (oneOf ks) s from) (ByteAmong ks s from)
+  first-tells : Tells (firstStep (oneOf ks)) s (ByteAmong ks s from) From (scanAt (firstStep (oneOf ks)) tt s from)
+  first-tells =
+      tells (firstStep (oneOf ks)) s (ByteAmong ks s from) From (λ p q. q .within) first-meets tt from (omega arith) (λ k h p. omega (arith, p .after))
+
+  -- the first byte of those listed
+  pub first-gives : Gives FirstAt (firstFound (oneOf ks) s from) (ByteAmong ks s from)
   first-gives =
-      tells-gives (firstStep (oneOf ks)) s (ByteAmong ks s from) From firstAnswer (λ p q e. cc) (λ t p e. let z : _≡_ {A = ℕ} 0 1 = cc in omega arith)
-      (scanAt (firstStep (oneOf ks)) tt s from)
-      (tells (firstStep (oneOf ks)) s (ByteAmong ks s from) From (λ p q. q .within) first-meets tt from (omega arith) (λ k h p. omega (arith, p .after)))
+      tells-gives (firstStep (oneOf ks)) s (ByteAmong ks s from) From firstAnswer (λ t p e. let z : _≡_ {A = ℕ} 0 1 = cc in omega arith) (λ p q e. cc)
+      (scanAt (firstStep (oneOf ks)) tt s from) first-tells
 
--- the first `<` or `&`
-pub text-gives : (s : List ℕ) (from : ℕ) → Gives FirstAt (textFound s from) (TextEnd s from)
-text-gives s from = first-gives textEnds s from
+  -- the bytes end with none
+  pub first-end : (firstFound (oneOf ks) s from ≡ End) ↔ Nowhere (ByteAmong ks s from)
+  first-end =
+      let both = tells-open (firstStep (oneOf ks)) s (ByteAmong ks s from) From firstAnswer
+      (λ t p e. let z : _≡_ {A = ℕ} 0 1 = cc in omega arith) (λ t u e. refl) (λ t. Unit {0}) (λ t e h m. tt) (λ t u x y. refl)
+      tt (scanAt (firstStep (oneOf ks)) tt s from) first-tells in
+      (λ e. both .0 e .0, λ n. both .1 (n, tt))
 
--- the first of `;`, `&`, `<` after the `&` at `from`
-pub reference-gives : (s : List ℕ) (from : ℕ) → Gives FirstAt (referenceFound s from) (ReferenceEnd s from)
-reference-gives s from = first-gives referenceEnds s (from + 1)
+module _ (s : List ℕ) (from : ℕ) where
+  -- the first `<` or `&`, or the end
+  pub text-gives : Gives FirstAt (textFound s from) (TextEnd s from)
+  text-gives = first-gives textEnds s from
+
+  pub text-end : (textFound s from ≡ End) ↔ Nowhere (TextEnd s from)
+  text-end = first-end textEnds s from
+
+  -- the first of `;`, `&`, `<` after the `&` at `from`, or the end
+  pub reference-gives : Gives FirstAt (referenceFound s from) (ReferenceEnd s from)
+  reference-gives = first-gives referenceEnds s (from + 1)
+
+  pub reference-end : (referenceFound s from ≡ End) ↔ Nowhere (ReferenceEnd s from)
+  reference-end = first-end referenceEnds s (from + 1)

@@ -2,6 +2,7 @@
 use Prim.Native.Nat.{ℕ, _+_, _-_, _≤_, _<_}
 use mathlib.Core.Path.{_≡_}
 use mathlib.Core.List.{List}
+use mathlib.Core.Logic.{_⊎_}
 use lib.ListN.{length, getD}
 use lib.Dec.{eqb, leb, ltb}
 use Rattle.ground.specs.Choose.{pick}
@@ -67,3 +68,12 @@ CommentEnd = MarkedEnd hyphen 2 6
 -- "the first `>` with `]]` just before"; both belong to the piece, so the `>` stands at offset 2 or more
 abbrev pub CDataEnd : List ℕ → ℕ → ℕ → Type 0
 CDataEnd = MarkedEnd closeBracket 2 2
+
+-- how the bytes of a piece end: so much of its opener is left; the last `seen` bytes are marks, none of them in the opener, at most as many as needed;
+-- and where they are fewer, no further mark stands before them
+pub record MarksLeft (mark need opener : ℕ) (s : List ℕ) (from : ℕ) (m : Marks) : Type 0 where
+  pub left : m .left ≡ opener - (length s - from)
+  pub most : m .seen ≤ need
+  pub room : m .seen ≤ length s - (from + opener)
+  pub marks : (j : ℕ) → 0 < j → j ≤ m .seen → getD s (length s - j) 0 ≡ mark
+  pub no-more : m .seen < need → (m .seen ≡ length s - (from + opener)) ⊎ (getD s (length s - (m .seen + 1)) 0 ≡ mark → ⊥)
