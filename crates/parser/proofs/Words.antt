@@ -17,8 +17,10 @@ use Rattle.ground.proofs.Choices.{pick-cases, clash}
 use Rattle.ground.proofs.Lists.{part-in, take-next}
 use Rattle.parser.specs.Machine.{Next, go, Scan, found, going, scanAt}
 use Rattle.parser.specs.Element.{elementStep, elementAnswer, elementFound, IsQuote, OutsideQuotes, at-first, plain, WithinQuote, LeavesIn, TagEnd}
-use Rattle.parser.specs.Marks.{marksStep, marksAnswer, marksFound, piFound, commentFound, cdataFound, passing, MarkedEnd, MarksLeft, PiEnd, CommentEnd, CDataEnd}
-use Rattle.parser.specs.First.{firstStep, firstAnswer, firstFound, oneOf, textEnds, textFound, referenceEnds, referenceFound, Among, ByteAmong, TextEnd, ReferenceEnd}
+use Rattle.parser.specs.Marks.{marksStep, marksAnswer, marksFound, piFound, commentFound, cdataFound, passing}
+use Rattle.parser.specs.Marks.{MarkedEnd, MarksLeft, PiEnd, CommentEnd, CDataEnd}
+use Rattle.parser.specs.First.{firstStep, firstAnswer, firstFound, oneOf, textEnds, textFound, referenceEnds, referenceFound}
+use Rattle.parser.specs.First.{Among, ByteAmong, TextEnd, ReferenceEnd}
 use Rattle.parser.specs.declared.element.ElementState.{ElementState}
 use Rattle.parser.specs.declared.element.ElementState.the-variants.{Outside, SingleQ, DoubleQ}
 use Rattle.parser.specs.declared.element.Found.the-variants.{At, Open}
@@ -167,7 +169,8 @@ not-one-of : (ks : List ℕ) (b : ℕ) → oneOf ks b ≡ false → Among ks b �
 not-one-of [] b e a = a
 not-one-of (k ∷ ks) b e a = by (eqb b k) refl e (not-one-of ks b) a
   where
-    by : (x : Bool) → eqb b k ≡ x → pick x true (oneOf ks b) ≡ false → (oneOf ks b ≡ false → Among ks b → ⊥) → (b ≡ k) ⊎ Among ks b → ⊥
+    by : (x : Bool) → eqb b k ≡ x → pick x true (oneOf ks b) ≡ false → (oneOf ks b ≡ false → Among ks b → ⊥)
+        → (b ≡ k) ⊎ Among ks b → ⊥
     by true q e r = clash true refl e
     by false q e r = ⊎-elim (eqb-false b k q) (r e)
 
@@ -175,7 +178,8 @@ module _ (ks s : List ℕ) (from : ℕ) where
   abbrev From : Unit {0} → ℕ → Type 0
   From u i = from ≤ i
 
-  first-meets : (u : Unit {0}) (i : ℕ) → From u i → i < length s → Meets (firstStep (oneOf ks)) s (ByteAmong ks s from) From i (firstStep (oneOf ks) u (getD s i 0))
+  first-meets : (u : Unit {0}) (i : ℕ) → From u i → i < length s
+      → Meets (firstStep (oneOf ks)) s (ByteAmong ks s from) From i (firstStep (oneOf ks) u (getD s i 0))
   first-meets u i m h =
       pick-cases (Meets (firstStep (oneOf ks)) s (ByteAmong ks s from) From i) (oneOf ks (getD s i 0)) _ _
       (λ x. record { after = m; within = h; among = one-of ks (getD s i 0) x })
