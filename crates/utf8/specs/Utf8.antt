@@ -17,8 +17,8 @@ abbrev pub inRange : Range → ℕ → Bool
 inRange r b = pick (leb (r .0) b) (leb b (r .1)) false
 
 -- UTF8-tail = %x80-BF
-abbrev pub tail : Range
-tail = (0x80, 0xBF)
+abbrev pub utf8Tail : Range
+utf8Tail = (0x80, 0xBF)
 
 -- UTF8-char = UTF8-1 / UTF8-2 / UTF8-3 / UTF8-4: the rows of the RFC, each with its ranges
 abbrev pub rows : List (List Range)
@@ -26,16 +26,16 @@ rows =
     -- UTF8-1
     ((0x00, 0x7F) ∷ [])
     -- UTF8-2
-    ∷ ((0xC2, 0xDF) ∷ tail ∷ [])
+    ∷ ((0xC2, 0xDF) ∷ utf8Tail ∷ [])
     -- UTF8-3
-    ∷ ((0xE0, 0xE0) ∷ (0xA0, 0xBF) ∷ tail ∷ [])
-    ∷ ((0xE1, 0xEC) ∷ tail ∷ tail ∷ [])
-    ∷ ((0xED, 0xED) ∷ (0x80, 0x9F) ∷ tail ∷ [])
-    ∷ ((0xEE, 0xEF) ∷ tail ∷ tail ∷ [])
+    ∷ ((0xE0, 0xE0) ∷ (0xA0, 0xBF) ∷ utf8Tail ∷ [])
+    ∷ ((0xE1, 0xEC) ∷ utf8Tail ∷ utf8Tail ∷ [])
+    ∷ ((0xED, 0xED) ∷ (0x80, 0x9F) ∷ utf8Tail ∷ [])
+    ∷ ((0xEE, 0xEF) ∷ utf8Tail ∷ utf8Tail ∷ [])
     -- UTF8-4
-    ∷ ((0xF0, 0xF0) ∷ (0x90, 0xBF) ∷ tail ∷ tail ∷ [])
-    ∷ ((0xF1, 0xF3) ∷ tail ∷ tail ∷ tail ∷ [])
-    ∷ ((0xF4, 0xF4) ∷ (0x80, 0x8F) ∷ tail ∷ tail ∷ [])
+    ∷ ((0xF0, 0xF0) ∷ (0x90, 0xBF) ∷ utf8Tail ∷ utf8Tail ∷ [])
+    ∷ ((0xF1, 0xF3) ∷ utf8Tail ∷ utf8Tail ∷ utf8Tail ∷ [])
+    ∷ ((0xF4, 0xF4) ∷ (0x80, 0x8F) ∷ utf8Tail ∷ utf8Tail ∷ [])
     ∷ []
 
 -- the bytes begin with a byte of each range in turn
