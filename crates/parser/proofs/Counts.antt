@@ -93,37 +93,32 @@ module _ (mark need opener : ℕ) (s : List ℕ) (from : ℕ) where
         )
 
         module _ (d : getD s i 0 ≡ gt → ⊥) where
-          -- a mark, and fewer seen than needed, or enough
-          counts-one : getD s i 0 ≡ mark → m .seen < need → Here (go (seeing (m .seen + 1)))
-          counts-one b l = (
+          -- a mark: k of them are seen, one more than before or as many as needed
+          counts-mark : getD s i 0 ≡ mark → (k : ℕ) → k ≤ m .seen + 1 → k ≤ need
+              → (k < need → (i + 1 ≡ start + k) ⊎ (getD s (i + 1 - (k + 1)) 0 ≡ mark → ⊥)) → Here (go (seeing k))
+          counts-mark b k l u more = (
             λ p. d (p .closes),
             record {
               after = omega (arith, c .after);
               reach = inr (omega arith);
-              most = omega (arith, c .most);
+              most = u;
               room = omega (arith, c .room);
               in-opener = λ z. absurd (omega arith);
-              marks = marks-more i (m .seen) (c .marks) b;
-              no-more = λ z k. ⊎-elim (λ x. inl (omega arith)) (λ n. inr (λ x. n (ap (λ (k : ℕ). getD s k 0) (back i (m .seen)) ∙ x))) (c .no-more e l);
+              marks = λ j z h. marks-more i (m .seen) (c .marks) b j z (omega arith);
+              no-more = λ z h. more h;
             },
           )
+
+          counts-one : getD s i 0 ≡ mark → m .seen < need → Here (go (seeing (m .seen + 1)))
+          counts-one b l =
+              counts-mark b (m .seen + 1) (omega arith) (omega arith)
+              (λ h. ⊎-elim (λ x. inl (omega arith)) (λ n. inr (λ x. n (ap (λ (k : ℕ). getD s k 0) (back i (m .seen)) ∙ x))) (c .no-more e l))
             where
               back : (i n : ℕ) → i - (n + 1) ≡ i + 1 - (n + 1 + 1)
               back i n = omega arith
 
           enough : getD s i 0 ≡ mark → need ≤ m .seen → Here (go (seeing (m .seen)))
-          enough b l = (
-            λ p. d (p .closes),
-            record {
-              after = omega (arith, c .after);
-              reach = inr (omega arith);
-              most = omega (arith, c .most);
-              room = omega (arith, c .room);
-              in-opener = λ z. absurd (omega arith);
-              marks = λ j z k. marks-more i (m .seen) (c .marks) b j z (omega arith);
-              no-more = λ z k. absurd (omega arith);
-            },
-          )
+          enough b l = counts-mark b (m .seen) (omega arith) (c .most) (λ h. absurd (omega arith))
 
           -- any other byte
           plain : (getD s i 0 ≡ mark → ⊥) → Here (go (seeing 0))

@@ -78,14 +78,14 @@ module _ (test : ℕ → Bool) (s : List ℕ) (r : Scan (Unit {0})) (i : ℕ) (v
   pub first-here : i < length s → true ≡ test (getD s i 0) → First.At i ≡ firstAnswer r
   first-here h e = run-stop firstAnswer (firstStep test) r tt s i (First.At i) v h (rw (← e)) refl
 
-  pub first-end : length s ≤ i → First.End ≡ firstAnswer r
-  first-end h = run-end firstAnswer (firstStep test) r tt s i First.End v h refl
+  pub first-done : length s ≤ i → First.End ≡ firstAnswer r
+  first-done h = run-end firstAnswer (firstStep test) r tt s i First.End v h refl
 
 -- a place at or past the end
 pub first-past : (test : ℕ → Bool) (s : List ℕ) (from : ℕ) → length s ≤ from → First.End ≡ firstFound test s (from + 1)
-first-past test s from h = first-end test s _ (from + 1) refl (omega arith)
+first-past test s from h = first-done test s _ (from + 1) refl (omega arith)
 
-pub ruleset first-turns = (choices, first-turn, first-here, first-end, first-past)
+pub ruleset first-turns = (choices, first-turn, first-here, first-done, first-past)
 
 -- ---- the opener of a piece that ends in marks
 

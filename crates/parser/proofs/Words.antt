@@ -15,7 +15,7 @@ use Rattle.ground.specs.Bytes.{quot, apos, gt, hyphen, question, closeBracket}
 use Rattle.ground.specs.Least.{Nowhere, Gives}
 use Rattle.ground.proofs.Choices.{pick-cases, clash}
 use Rattle.ground.proofs.Lists.{part-in, take-next}
-use Rattle.parser.specs.Machine.{Next, go, Scan, found, going, scanAt}
+use Rattle.parser.specs.Machine.{Next, go, scanAt}
 use Rattle.parser.specs.Element.{elementStep, elementAnswer, elementFound, IsQuote, OutsideQuotes, at-first, plain, WithinQuote, LeavesIn, TagEnd}
 use Rattle.parser.specs.Marks.{marksStep, marksAnswer, marksFound, piFound, commentFound, cdataFound, passing}
 use Rattle.parser.specs.Marks.{MarkedEnd, MarksLeft, PiEnd, CommentEnd, CDataEnd}
@@ -32,6 +32,12 @@ use Rattle.parser.proofs.Quotes.{opens, closes, stays, leaves-one}
 use Rattle.parser.proofs.Counts.{Counts, counts-meets, counts-start, counts-end, left-one}
 
 -- ---- tags
+
+-- how many quotes are open
+abbrev depth : ElementState → ℕ
+depth Outside = 0
+depth SingleQ = 1
+depth DoubleQ = 1
 
 module _ (s : List ℕ) (from : ℕ) where
   -- the bytes that the scan has passed at i
@@ -66,7 +72,7 @@ module _ (s : List ℕ) (from : ℕ) where
         opened-by q e = subst (λ (x : ℕ). WithinQuote q (passed i ++ (x ∷ []))) (sym e) (opens q (passed i) o)
 
     -- within a quote q, whose state is t
-    module _ (q : ℕ) (t : ElementState) (a-quote : IsQuote q) (other : q ≡ gt → ⊥) (not-out : t ≡ Outside → ⊥)
+    module _ (q : ℕ) (t : ElementState) (a-quote : IsQuote q) (other : q ≡ gt → ⊥) (inner : 0 < depth t)
         (is : (bs : List ℕ) → WithinQuote q bs → LeavesIn t bs) (w : WithinQuote q (passed i)) where
       within-meets : Here (pick (eqb b q) (go Outside) (go t))
       within-meets =
@@ -76,20 +82,15 @@ module _ (s : List ℕ) (from : ℕ) where
             next Outside (subst (λ (x : ℕ). OutsideQuotes (passed i ++ (x ∷ []))) (sym e) (closes q (passed i) a-quote w)),
           ))
           (λ x. (
-            λ p. not-out (leaves-one t Outside (passed i) (is (passed i) w) (subst OutsideQuotes (part-in s from i f (omega arith)) (p .outside))),
+            λ p. let o = subst OutsideQuotes (part-in s from i f (omega arith)) (p .outside) in
+                omega (arith, ap depth (leaves-one t Outside (passed i) (is (passed i) w) o)),
             next t (is _ (stays q b (passed i) (eqb-false b q x) w)),
           ))
 
-  apart-single : SingleQ ≡ Outside → ⊥
-  apart-single e = let z : _≡_ {A = ℕ} 0 1 = cc in omega arith
-
-  apart-double : DoubleQ ≡ Outside → ⊥
-  apart-double e = let z : _≡_ {A = ℕ} 0 1 = cc in omega arith
-
   element-meets : (q : ElementState) (i : ℕ) → Means q i → i < length s → Meets elementStep s (TagEnd s from) Means i (elementStep q (getD s i 0))
   element-meets Outside i m h = outside-meets i h (m .0) (m .1)
-  element-meets SingleQ i m h = within-meets i h (m .0) apos SingleQ (inr refl) (λ e. omega arith) apart-single (λ bs w. w) (m .1)
-  element-meets DoubleQ i m h = within-meets i h (m .0) quot DoubleQ (inl refl) (λ e. omega arith) apart-double (λ bs w. w) (m .1)
+  element-meets SingleQ i m h = within-meets i h (m .0) apos SingleQ (inr refl) (λ e. omega arith) (omega arith) (λ bs w. w) (m .1)
+  element-meets DoubleQ i m h = within-meets i h (m .0) quot DoubleQ (inl refl) (λ e. omega arith) (omega arith) (λ bs w. w) (m .1)
 
   element-tells : Tells elementStep s (TagEnd s from) Means (scanAt elementStep Outside s from)
   element-tells =

@@ -20,10 +20,12 @@ elementStep Outside b = pick (eqb b gt) stop (pick (eqb b apos) (go SingleQ) (pi
 elementStep SingleQ b = pick (eqb b apos) (go Outside) (go SingleQ)
 elementStep DoubleQ b = pick (eqb b quot) (go Outside) (go DoubleQ)
 
+-- the scan as the answer that it gives
 abbrev pub elementAnswer : Scan ElementState → Found
 elementAnswer (found p) = At p
 elementAnswer (going q) = Open q
 
+-- from `from` on, outside quotes at first
 abbrev pub elementFound : List ℕ → ℕ → Found
 elementFound s from = elementAnswer (scanAt elementStep Outside s from)
 

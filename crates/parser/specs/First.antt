@@ -16,10 +16,12 @@ use Rattle.parser.specs.declared.first.Found.the-variants.{At, End}
 abbrev pub firstStep : (ℕ → Bool) → Unit {0} → ℕ → Next (Unit {0})
 firstStep test u b = pick (test b) stop (go tt)
 
+-- the scan as the answer that it gives
 abbrev pub firstAnswer : Scan (Unit {0}) → Found
 firstAnswer (found p) = At p
 firstAnswer (going u) = End
 
+-- from `from` on
 abbrev pub firstFound : (ℕ → Bool) → List ℕ → ℕ → Found
 firstFound test s from = firstAnswer (scanAt (firstStep test) tt s from)
 
@@ -45,6 +47,7 @@ referenceFound s from = firstFound (oneOf referenceEnds) s (from + 1)
 
 -- ---- the same in words
 
+-- the byte is one of those listed
 abbrev pub Among : List ℕ → ℕ → Type 0
 Among [] b = ⊥
 Among (k ∷ ks) b = (b ≡ k) ⊎ Among ks b

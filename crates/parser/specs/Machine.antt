@@ -15,6 +15,7 @@ pub data Scan (S : Type 0) : Type 0 where
   going : S → Scan S
 
 module _ {S : Type 0} where
+  -- where a scan stands after a byte at i
   abbrev pub stand : ℕ → Next S → Scan S
   stand i (go s) = going s
   stand i stop = found i

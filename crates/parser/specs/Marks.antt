@@ -28,6 +28,7 @@ marksStep mark need m b =
     (pick (eqb b mark) (pick (ltb (m .seen) need) (go (seeing (m .seen + 1))) (go (seeing (m .seen)))) (go (seeing 0))))
     (go (passing (m .left - 1)))
 
+-- the scan as the answer that it gives
 abbrev pub marksAnswer : Scan Marks → Found
 marksAnswer (found p) = At p
 marksAnswer (going m) = Open m

@@ -13,7 +13,7 @@ use borrow.Author.Needs.{needs}
 use Rattle.ground.specs.Part.{part}
 use Rattle.ground.proofs.Choices.{pick-cases}
 use Rattle.ground.proofs.Lists.{drop-next, drop-done, part-end}
-use Rattle.white.specs.White.{isWhite, notWhite, until, keptOf, kept}
+use Rattle.white.specs.White.{isWhite, notWhite, until, keptOf}
 
 -- ---- the first byte that passes a test
 
@@ -95,7 +95,7 @@ module _ (s : List ℕ) (n e : ℕ) (v : n ≡ keptOf s e) where
 
 pub ruleset cut-turns = (needs, cut-none, cut-here, cut-turn)
 
--- ---- a count of bytes in front of a span, as a position of the slice, whatever the span
+-- ---- how many bytes of a span are counted, as a position of the slice, whatever the span
 
 pub until-within : (test : ℕ → Bool) (bs : List ℕ) → until test bs ≤ length bs
 unfolding until
