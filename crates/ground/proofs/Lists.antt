@@ -1,11 +1,11 @@
 -- A list from a position on, a byte further. Assumes nothing.
 use Prim.Native.Nat.{ℕ, suc, _+_, _-_, _≤_, _<_, max}
-use mathlib.Core.Path.{_≡_, ap, _∙_}
+use mathlib.Core.Path.{_≡_, sym, ap, _∙_}
 use mathlib.Core.List.{List, [], _∷_, _++_}
 use native.Mathlib.Numerals.{add-one}
 use native.Mathlib.Omega.{arith}
 use native.Mathlib.Decide.{decLt}
-use lib.ListN.{length, getD, take, drop, drop-of-length-le, length-take, length-drop}
+use lib.ListN.{length, getD, take, drop, drop-of-length-le, length-take, length-drop, List·getD-eq-default}
 use lib.Seq.{drop-cons, drop-length, take-nil, take-suc, getD-drop}
 use lib.Dec.{ltb}
 use borrow.Author.Tests.{le-ltb, lt-ltb}
@@ -19,6 +19,10 @@ drop-next a i h = rw (add-one, drop-cons a i 0)
 -- nothing is left at the end or past it
 pub drop-done : (a : List ℕ) (i : ℕ) → length a ≤ i → drop i a ≡ []
 drop-done a i h = drop-of-length-le a h
+
+-- and the byte there is 0
+pub byte-past : (a : List ℕ) (i : ℕ) → length a ≤ i → 0 ≡ getD a i 0
+byte-past a i h = sym (List·getD-eq-default a 0 h)
 
 -- the part that starts at the end is empty
 pub at-end : (s : List ℕ) (n : ℕ) → take n (drop (length s) s) ≡ []

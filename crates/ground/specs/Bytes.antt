@@ -30,9 +30,15 @@ lt = 0x3C
 abbrev pub gt : ℕ
 gt = 0x3E
 
--- ---- `-`, `;`, `?` and `]`
+-- ---- `!`, `-`, `/`, `;`, `?`, `[` and `]`
+abbrev pub bang : ℕ
+bang = 0x21
+
 abbrev pub hyphen : ℕ
 hyphen = 0x2D
+
+abbrev pub slash : ℕ
+slash = 0x2F
 
 abbrev pub semicolon : ℕ
 semicolon = 0x3B
@@ -40,5 +46,15 @@ semicolon = 0x3B
 abbrev pub question : ℕ
 question = 0x3F
 
+abbrev pub openBracket : ℕ
+openBracket = 0x5B
+
 abbrev pub closeBracket : ℕ
 closeBracket = 0x5D
+
+-- ---- `D` and `d`
+abbrev pub upperD : ℕ
+upperD = 0x44
+
+abbrev pub lowerD : ℕ
+lowerD = 0x64

@@ -1,4 +1,5 @@
 pub mod Bytes
 pub mod Choose
+pub mod Equal
 pub mod Least
 pub mod Part

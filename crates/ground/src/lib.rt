@@ -1,6 +1,18 @@
-// What every crate stands on: a part of a slice that is asked for by its ends.
+// What every crate stands on: a byte of a slice, a part of it that is asked for by its ends, and comparisons of bytes.
 ghost use mathlib.Core.Path.{_≡_};
+ghost use lib.ListN.{getD, drop};
+ghost use Rattle.ground.specs.Equal.{begins, same as sameOf};
 ghost use Rattle.ground.specs.Part.{part as partOf};
+
+// The byte at `i`; 0 at the end or past it.
+pub fn byte_at(s: &[u8], i: usize) -> u8
+    ensures { λ r. ⌜ r ≡ getD (now (s .entry)) i 0 ⌝ }
+{
+    if s.len() <= i {
+        return 0;
+    }
+    s[i]
+}
 
 // The bytes from `from` up to `to`; the empty part at the end where that span does not lie in the slice.
 pub fn part(s: &[u8], from: usize, to: usize) -> &[u8]
@@ -13,4 +25,33 @@ pub fn part(s: &[u8], from: usize, to: usize) -> &[u8]
         return &s[s.len()..];
     }
     &s[from..to]
+}
+
+// Whether the bytes from `from` on begin with `prefix`. At the end or past it there are none, and they begin with an empty prefix only.
+pub fn starts_with(s: &[u8], from: usize, prefix: &[u8]) -> bool
+    ensures { λ r. ⌜ r ≡ begins (drop from (now (s .entry))) (now (prefix .entry)) ⌝ }
+{
+    let mut at = from;
+    let mut i = 0;
+    while i < prefix.len() {
+        if s.len() <= at {
+            return false;
+        }
+        if s[at] != prefix[i] {
+            return false;
+        }
+        at += 1;
+        i += 1;
+    }
+    true
+}
+
+// Whether two slices hold the same bytes.
+pub fn same(a: &[u8], b: &[u8]) -> bool
+    ensures { λ r. ⌜ r ≡ sameOf (now (a .entry)) (now (b .entry)) ⌝ }
+{
+    if a.len() != b.len() {
+        return false;
+    }
+    starts_with(a, 0, b)
 }
