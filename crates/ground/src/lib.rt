@@ -50,8 +50,9 @@ pub fn starts_with(s: &[u8], from: usize, prefix: &[u8]) -> bool
 pub fn same(a: &[u8], b: &[u8]) -> bool
     ensures { λ r. ⌜ r ≡ sameOf (now (a .entry)) (now (b .entry)) ⌝ }
 {
-    if a.len() != b.len() {
-        return false;
+    if a.len() == b.len() {
+        starts_with(a, 0, b)
+    } else {
+        false
     }
-    starts_with(a, 0, b)
 }

@@ -8,6 +8,6 @@ pub same-spec : {M : Type 1} → statement M
 same-spec =
     tie.close
     (tie.spec
-    (λ c. search (needs, same-uneven))
     (λ c κs. search needs)
-    (λ c. search (needs, same-even)))
+    (λ c. search (needs, same-even))
+    (λ c. search (needs, same-uneven)))
