@@ -9,5 +9,5 @@ same-spec =
     tie.close
     (tie.spec
     (λ c κs. search needs)
-    (λ c. search (needs, same-even))
-    (λ c. search (needs, same-uneven)))
+    (λ c. search same-even)
+    (λ c. search same-uneven))
