@@ -59,6 +59,12 @@ module _ {S A : Type 0} (step : S → ℕ → Next S) (a : List ℕ) (P : ℕ �
   tells-gives one (found p) l = gives-at (λ p. out (found p)) one P p l
   tells-gives one (going t) w = gives-none (λ p. out (found p)) one P (out (going t)) (other t) (w .0)
 
+  -- that the bytes end with none, where the answer is then the same whatever the state
+  pub tells-none : (t : S) → ((u : S) → out (going u) ≡ out (going t))
+      → (r : Scan S) → Tells step a P Means r → (out r ≡ out (going t)) ↔ Nowhere P
+  tells-none t one (found p) l = (λ e. absurd (other t p (sym e)), λ w. absurd (w p (l .has)))
+  tells-none t one (going u) w = (λ e. w .0, λ n. one u)
+
   -- the state in which the bytes end, where `Ends` says what it means there and fits one state only
   module _ (one : (t u : S) → out (going t) ≡ out (going u) → t ≡ u) (Ends : S → Type 0)
       (ends : (t : S) (e : ℕ) → length a ≤ e → Means t e → Ends t) (only : (t u : S) → Ends t → Ends u → t ≡ u) where

@@ -8,7 +8,7 @@ use native.Mathlib.Omega.{arith}
 use mathlib.Core.Bool.{Bool, true, false}
 use borrow.Author.Needs.{needs}
 use borrow.Author.Tests.{ne-eqb}
-use Rattle.ground.specs.Bytes.{quot, apos, gt}
+use Rattle.ground.specs.Bytes.{quot, apos, gt, hyphen}
 use Rattle.parser.specs.Machine.{go, stop, Scan, scanAt}
 use Rattle.parser.specs.Element.{elementStep, elementAnswer, quoteOf, IsQuote}
 use Rattle.parser.specs.declared.element.ElementState.{ElementState}
@@ -16,6 +16,7 @@ use Rattle.parser.specs.declared.element.ElementState.the-variants.{Outs
 use Rattle.parser.specs.declared.element.Found.the-variants.{At, Open}
 use Rattle.parser.specs.First.{firstStep, firstAnswer, firstFound}
 use Rattle.parser.specs.declared.first.Found.the-variants as First
+use Rattle.parser.specs.Hyphens.{pairStep, pairAnswer}
 use Rattle.parser.specs.Marks.{marksStep, marksAnswer, marksFound, seeing, passing}
 use Rattle.parser.specs.declared.marks.Marks.{Marks}
 use Rattle.parser.specs.declared.marks.Found.{Found}
@@ -86,6 +87,25 @@ pub first-past : (test : ℕ → Bool) (s : List ℕ) (from : ℕ) → length s 
 first-past test s from h = first-done test s _ (from + 1) refl (omega arith)
 
 pub ruleset first-turns = (choices, first-turn, first-here, first-done, first-past)
+
+-- ---- the loop that looks for two hyphens
+
+module _ (s : List ℕ) (r : Scan Bool) (before : Bool) (i : ℕ) (v : r ≡ scanAt pairStep before s i) where
+  pub pair-none : length s ≤ i → First.End ≡ pairAnswer r
+  pair-none h = run-end pairAnswer pairStep r before s i First.End v h refl
+
+  module _ (h : i < length s) where
+    pub pair-plain : (getD s i 0 ≡ hyphen → ⊥) → r ≡ scanAt pairStep false s (i + 1)
+    pair-plain n = run-turn pairStep r before s i v false h (rw (ne-eqb _ _ n))
+
+    module _ (e : getD s i 0 ≡ hyphen) where
+      pub pair-one : before ≡ false → r ≡ scanAt pairStep true s (i + 1)
+      pair-one f = run-turn pairStep r before s i v true h (rw (e, f))
+
+      pub pair-two : before ≡ true → First.At i ≡ pairAnswer r
+      pair-two f = run-stop pairAnswer pairStep r before s i (First.At i) v h (rw (e, f)) refl
+
+pub ruleset pair-turns = (needs, pair-none, pair-plain, pair-one, pair-two)
 
 -- ---- the opener of a piece that ends in marks
 

@@ -21,13 +21,14 @@ use Rattle.parser.specs.Marks.{marksStep, marksAnswer, marksFound, piFou
 use Rattle.parser.specs.Marks.{MarkedEnd, MarksLeft, PiEnd, CommentEnd, CDataEnd}
 use Rattle.parser.specs.First.{firstStep, firstAnswer, firstFound, oneOf, textEnds, textFound, referenceEnds, referenceFound}
 use Rattle.parser.specs.First.{Among, ByteAmong, TextEnd, ReferenceEnd}
+use Rattle.parser.specs.Hyphens.{pairStep, pairAnswer, pairFound, PairEnd}
 use Rattle.parser.specs.declared.element.ElementState.{ElementState}
 use Rattle.parser.specs.declared.element.ElementState.the-variants.{Outside, SingleQ, DoubleQ}
 use Rattle.parser.specs.declared.element.Found.the-variants.{At, Open}
 use Rattle.parser.specs.declared.marks.Marks.{Marks}
 use Rattle.parser.specs.declared.marks.Found.the-variants.{At as MarkedAt, Open as MarkedOpen}
 use Rattle.parser.specs.declared.first.Found.the-variants.{At as FirstAt, End}
-use Rattle.parser.proofs.Outcome.{Meets, Tells, tells, tells-gives, tells-open}
+use Rattle.parser.proofs.Outcome.{Meets, Tells, tells, tells-gives, tells-none, tells-open}
 use Rattle.parser.proofs.Quotes.{opens, closes, stays, leaves-one}
 use Rattle.parser.proofs.Counts.{Counts, counts-meets, counts-start, counts-end, left-one}
 
@@ -199,10 +200,8 @@ module _ (ks s : List ℕ) (from : ℕ) where
   -- the bytes end with none
   pub first-end : (firstFound (oneOf ks) s from ≡ End) ↔ Nowhere (ByteAmong ks s from)
   first-end =
-      let both = tells-open (firstStep (oneOf ks)) s (ByteAmong ks s from) From firstAnswer
-      (λ t p e. let z : _≡_ {A = ℕ} 0 1 = cc in omega arith) (λ t u e. refl) (λ t. Unit {0}) (λ t e h m. tt) (λ t u x y. refl)
-      tt (scanAt (firstStep (oneOf ks)) tt s from) first-tells in
-      (λ e. both .0 e .0, λ n. both .1 (n, tt))
+      tells-none (firstStep (oneOf ks)) s (ByteAmong ks s from) From firstAnswer (λ t p e. let z : _≡_ {A = ℕ} 0 1 = cc in omega arith)
+      tt (λ u. refl) (scanAt (firstStep (oneOf ks)) tt s from) first-tells
 
 module _ (s : List ℕ) (from : ℕ) where
   -- the first `<` or `&`, or the end
@@ -218,3 +217,50 @@ module _ (s : List ℕ) (from : ℕ) where
 
   pub reference-end : (referenceFound s from ≡ End) ↔ Nowhere (ReferenceEnd s from)
   reference-end = first-end referenceEnds s (from + 1)
+
+-- ---- two hyphens
+
+module _ (s : List ℕ) (from : ℕ) where
+  -- what the byte just before i is, if it stands at `from` or later
+  abbrev Before : Bool → ℕ → Type 0
+  Before true i = (from < i) × (getD s (i - 1) 0 ≡ hyphen)
+  Before false i = (from ≤ i) × (from < i → getD s (i - 1) 0 ≡ hyphen → ⊥)
+
+  module _ (i : ℕ) (h : i < length s) where
+    abbrev At-pair : Next Bool → Type 0
+    At-pair = Meets pairStep s (PairEnd s from) Before i
+
+    back : getD s (i + 1 - 1) 0 ≡ getD s i 0
+    back = let e : i + 1 - 1 ≡ i = omega arith in ap (λ (k : ℕ). getD s k 0) e
+
+    -- any other byte
+    pair-other : from ≤ i → eqb (getD s i 0) hyphen ≡ false → At-pair (go false)
+    pair-other f x =
+        let n = eqb-false (getD s i 0) hyphen x in
+        (λ p. n (p .second), (omega arith, λ l e. n (sym back ∙ e)))
+
+    pair-meets : (before : Bool) → Before before i → At-pair (pairStep before (getD s i 0))
+    pair-meets true m =
+        pick-cases At-pair (eqb (getD s i 0) hyphen) _ _
+        (λ x. record { after = m .0; within = h; second = eqb-true (getD s i 0) hyphen x; first = m .1 })
+        (pair-other (omega (arith, m .0)))
+    pair-meets false m =
+        pick-cases At-pair (eqb (getD s i 0) hyphen) _ _
+        (λ x. (λ p. m .1 (p .after) (p .first), (omega (arith, m .0), back ∙ eqb-true (getD s i 0) hyphen x)))
+        (pair-other (m .0))
+
+  pair-tells : Tells pairStep s (PairEnd s from) Before (scanAt pairStep false s from)
+  pair-tells =
+      tells pairStep s (PairEnd s from) Before (λ p q. q .within) (λ t i m h. pair-meets i h t m) false from
+      (omega arith, λ l e. omega arith) (λ k h p. omega (arith, p .after))
+
+  -- the second of the first two hyphens in a row
+  pub pair-gives : Gives FirstAt (pairFound s from) (PairEnd s from)
+  pair-gives =
+      tells-gives pairStep s (PairEnd s from) Before pairAnswer (λ t p e. let z : _≡_ {A = ℕ} 0 1 = cc in omega arith) (λ p q e. cc)
+      (scanAt pairStep false s from) pair-tells
+
+  pub pair-end : (pairFound s from ≡ End) ↔ Nowhere (PairEnd s from)
+  pair-end =
+      tells-none pairStep s (PairEnd s from) Before pairAnswer (λ t p e. let z : _≡_ {A = ℕ} 0 1 = cc in omega arith)
+      false (λ u. refl) (scanAt pairStep false s from) pair-tells

@@ -2,3 +2,4 @@ pub mod Machine
 pub mod Element
 pub mod Marks
 pub mod First
+pub mod Hyphens

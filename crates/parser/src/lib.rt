@@ -4,6 +4,7 @@ pub mod cdata;
 pub mod comment;
 pub mod element;
 pub mod first;
+pub mod hyphens;
 pub mod marks;
 pub mod pi;
 pub mod reference;
