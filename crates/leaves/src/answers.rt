@@ -18,14 +18,19 @@ pub fn answer(text: &[u8]) {
     let mut space = io::buffer();
     let n = bytes(text, to.next, &mut space);
     let s = &space[..n];
+    let mut room = io::buffer();
+    let m = bytes(ground::part(text, 0, to.next), from.next, &mut room);
     bounds(name, s, from.value, to.value);
+    compares(name, s, from.value, &room[..m]);
     scans(name, s, from.value);
 }
 
-// The functions over a span, and those of white space.
+// The functions over a span or a byte.
 fn bounds(name: &[u8], s: &[u8], from: usize, to: usize) {
     if check::same(name, b"part") {
         say_part(s, from, to);
+    } else if check::same(name, b"byte_at") {
+        say_number(b" =", ground::byte_at(s, from) as usize);
     } else if check::same(name, b"is_whitespace") {
         say_white(s, from);
     } else if check::same(name, b"name_len") {
@@ -36,6 +41,15 @@ fn bounds(name: &[u8], s: &[u8], from: usize, to: usize) {
         say_number(b" =", white::trim_start(s, from, to));
     } else if check::same(name, b"utf8") {
         say_utf8(utf8::check(s, from, to));
+    }
+}
+
+// The functions that compare with other bytes, which stand where a second number would.
+fn compares(name: &[u8], s: &[u8], from: usize, other: &[u8]) {
+    if check::same(name, b"starts_with") {
+        say_truth(ground::starts_with(s, from, other));
+    } else if check::same(name, b"same") {
+        say_truth(ground::same(s, other));
     }
 }
 
@@ -53,6 +67,8 @@ fn scans(name: &[u8], s: &[u8], from: usize) {
         say_first(parser::text::text_end(s, from));
     } else if check::same(name, b"reference") {
         say_first(parser::reference::reference_end(s, from));
+    } else if check::same(name, b"pair") {
+        say_first(parser::hyphens::pair_end(s, from));
     }
 }
 
@@ -66,7 +82,11 @@ fn say_white(s: &[u8], from: usize) {
     if s.len() <= from {
         return;
     }
-    if white::is_whitespace(s[from]) {
+    say_truth(white::is_whitespace(s[from]));
+}
+
+fn say_truth(t: bool) {
+    if t {
         say(b" = true");
     } else {
         say(b" = false");

@@ -1,6 +1,6 @@
 // Runs the leaves on cases from standard input, a case to a line, and writes each line with the answer behind it. A line has a function's name, its
-// numbers and, last, bytes up to the line's end, where `\` and two hexadecimal digits stand for a byte. A line with another name is written as it is. The cases
-// together have fewer than 65,536 bytes.
+// numbers and, last, bytes up to the line's end, where `\` and two hexadecimal digits stand for a byte. A function that compares has its other bytes
+// where a second number would stand. A line with another name is written as it is. The cases together have fewer than 65,536 bytes.
 mod answers;
 mod line;
 
