@@ -1,7 +1,7 @@
 -- A choice by a test of two numbers, from the fact that the code's own test gave: what `search` answers a definition by cases with.
 -- Assumes nothing.
 use Prim.Native.Nat.{ℕ, _≤_, _<_}
-use mathlib.Core.Path.{_≡_, refl}
+use mathlib.Core.Path.{_≡_, refl, sym, ap, _∙_}
 use mathlib.Core.Bool.{Bool, true, false}
 use native.Mathlib.Omega.{arith}
 use lib.Dec.{leb, ltb, eqb}
@@ -54,3 +54,7 @@ pick-same false x = refl
 pub pick-cases : {A : Type 0} (M : A → Type 0) (t : Bool) (x y : A) → (t ≡ true → M x) → (t ≡ false → M y) → M (pick t x y)
 pick-cases M true x y f g = f refl
 pick-cases M false x y f g = g refl
+
+-- a definition by cases where the code's own match has said the case, as `by-case errorNumber`
+pub by-case : {A B : Type 0} (g : A → B) (x : B) (a k : A) → a ≡ k → x ≡ g k → x ≡ g a
+by-case g x a k h e = e ∙ ap g (sym h)

@@ -1,0 +1,38 @@
+-- Laws of spans and depths, over the tests of the code. Assumes nothing.
+use Prim.Native.Nat.{ℕ, _+_, _-_, _≤_, _<_}
+use mathlib.Core.Path.{_≡_, ap}
+use native.Mathlib.Omega.{arith}
+use borrow.Author.Needs.{needs}
+use borrow.Author.Tests.{le-leb, lt-leb}
+use Rattle.state.specs.declared.place.Depth.{Depth}
+use Rattle.state.specs.declared.place.Span.{Span}
+use Rattle.state.specs.Place.{span, names, fewer, inner}
+
+module _ (s : Span) (front back : ℕ) where
+  pub inner-none : s .to < s .from + front + back → span (s .from) (s .from) ≡ inner s front back
+  unfolding inner
+  inner-none h = rw (lt-leb (s .from + front + back) (s .to) h)
+
+  pub inner-some : s .from + front + back ≤ s .to → span (s .from + front) (s .to - back) ≡ inner s front back
+  unfolding inner
+  inner-some h = rw (le-leb (s .from + front + back) (s .to) h)
+
+  pub crossed : s .to < s .from → span (s .from) (s .from) ≡ inner s front back
+  crossed h = inner-none (omega arith)
+
+  module _ (h : s .from ≤ s .to) where
+    pub short : s .to - s .from < front → span (s .from) (s .from) ≡ inner s front back
+    short f = inner-none (omega arith)
+
+    module _ (f : front ≤ s .to - s .from) where
+      pub shorter : s .to - s .from - front < back → span (s .from) (s .from) ≡ inner s front back
+      shorter b = inner-none (omega arith)
+
+      pub fits : back ≤ s .to - s .from - front → span (s .from + front) (s .to - back) ≡ inner s front back
+      fits b = inner-some (omega arith)
+
+pub ruleset inners = (needs, crossed, short, shorter, fits)
+
+-- where no name is open there is none to take away
+pub fewer-none : (d : Depth) → d .0 ≡ 0 → names 0 ≡ fewer d
+fewer-none d h = ap names (omega arith)

@@ -1,0 +1,60 @@
+-- `numbered` meets its contract. Assumes nothing.
+use borrow.Author.Needs.{needs}
+use Rattle.ground.proofs.Choices.{by-case}
+use Rattle.state.specs.Values.{numberedOf}
+use Rattle.state.proofs.answer.Error.numbered.Statement.{statement}
+use Rattle.state.proofs.answer.Error.numbered.Tie as tie
+
+pub numbered-spec : {M : Type 1} → statement M
+numbered-spec =
+    tie.close
+    (tie.spec
+    (λ c. search (needs, by-case numberedOf))
+    (λ c κs. search (needs, by-case numberedOf))
+    (λ c. search (needs, by-case numberedOf))
+    (λ c κs. search (needs, by-case numberedOf))
+    (λ c. search (needs, by-case numberedOf))
+    (λ c κs. search (needs, by-case numberedOf))
+    (λ c. search (needs, by-case numberedOf))
+    (λ c κs. search (needs, by-case numberedOf))
+    (λ c. search (needs, by-case numberedOf))
+    (λ c κs. search (needs, by-case numberedOf))
+    (λ c. search (needs, by-case numberedOf))
+    (λ c κs. search (needs, by-case numberedOf))
+    (λ c. search (needs, by-case numberedOf))
+    (λ c κs. search (needs, by-case numberedOf))
+    (λ c. search (needs, by-case numberedOf))
+    (λ c κs. search (needs, by-case numberedOf))
+    (λ c. search (needs, by-case numberedOf))
+    (λ c κs. search (needs, by-case numberedOf))
+    (λ c. search (needs, by-case numberedOf))
+    (λ c. search (needs, by-case numberedOf))
+    (λ c. search (needs, by-case numberedOf))
+    (λ c κs. search (needs, by-case numberedOf))
+    (λ c. search (needs, by-case numberedOf))
+    (λ c κs. search (needs, by-case numberedOf))
+    (λ c. search (needs, by-case numberedOf))
+    (λ c κs. search (needs, by-case numberedOf))
+    (λ c. search (needs, by-case numberedOf))
+    (λ c κs. search (needs, by-case numberedOf))
+    (λ c. search (needs, by-case numberedOf))
+    (λ c κs. search (needs, by-case numberedOf))
+    (λ c. search (needs, by-case numberedOf))
+    (λ c κs. search (needs, by-case numberedOf))
+    (λ c. search (needs, by-case numberedOf))
+    (λ c. search (needs, by-case numberedOf))
+    (λ c. search (needs, by-case numberedOf))
+    (λ c. search (needs, by-case numberedOf))
+    (λ c. search (needs, by-case numberedOf))
+    (λ c. search (needs, by-case numberedOf))
+    (λ c. search (needs, by-case numberedOf))
+    (λ c. search (needs, by-case numberedOf))
+    (λ c. search (needs, by-case numberedOf))
+    (λ c. search (needs, by-case numberedOf))
+    (λ c. search (needs, by-case numberedOf))
+    (λ c. search (needs, by-case numberedOf))
+    (λ c. search (needs, by-case numberedOf))
+    (λ c. search (needs, by-case numberedOf))
+    (λ c. search (needs, by-case numberedOf))
+    (λ c. search (needs, by-case numberedOf))
+    (λ c. search (needs, by-case numberedOf)))

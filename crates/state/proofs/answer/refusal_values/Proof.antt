@@ -1,0 +1,14 @@
+-- `refusal_values` meets its contract. Assumes nothing.
+use borrow.Author.Needs.{needs}
+use Rattle.state.proofs.answer.refusal_values.Statement.{statement}
+use Rattle.state.proofs.answer.refusal_values.Tie as tie
+
+returns : tie.Need-returns
+returns c = rw (c .before .before .numbered .ensures)
+
+pub refusal-values-spec : {M : Type 1} → statement M
+refusal-values-spec =
+    tie.close
+    (tie.spec
+    (λ c κs. search needs)
+    returns)

@@ -1,0 +1,16 @@
+-- `stop` meets its contract. Assumes nothing.
+use borrow.Author.Needs.{needs}
+use Rattle.state.specs.Make.{stopped}
+use Rattle.state.proofs.reader.Reader.stop.Statement.{statement}
+use Rattle.state.proofs.reader.Reader.stop.Tie as tie
+
+returns : tie.Need-returns
+unfolding stopped
+returns c = c .refuse .ensures
+
+pub stop-spec : {M : Type 1} → statement M
+stop-spec =
+    tie.close
+    (tie.spec
+    (λ c κs. search needs)
+    returns)

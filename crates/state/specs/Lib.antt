@@ -1,0 +1,5 @@
+pub mod Limits
+pub mod Place
+pub mod Settings
+pub mod Values
+pub mod Make

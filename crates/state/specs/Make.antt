@@ -1,0 +1,61 @@
+-- What a call leaves and answers, made by name: no other definition writes a reader's fields.
+use Prim.Native.Nat.{ℕ}
+use lib.Dec.{ltb}
+use Rattle.ground.specs.Choose.{pick}
+use Rattle.state.specs.declared.place.Position.{Position}
+use Rattle.state.specs.declared.place.Depth.{Depth}
+use Rattle.state.specs.declared.place.Span.{Span}
+use Rattle.state.specs.declared.config.Config.{Config}
+use Rattle.state.specs.declared.answer.Kind.{Kind}
+use Rattle.state.specs.declared.answer.Event.{Event}
+use Rattle.state.specs.declared.answer.Error.{Error}
+use Rattle.state.specs.declared.answer.Refusal.{Refusal}
+use Rattle.state.specs.declared.answer.Answer.{Answer}
+use Rattle.state.specs.declared.reader.Phase.{Phase}
+use Rattle.state.specs.declared.reader.Reader.{Reader}
+use Rattle.state.specs.declared.reader.Step.{Step}
+use Rattle.state.specs.declared.reader.Made.{Made}
+use Rattle.state.specs.Limits.{longest}
+use Rattle.state.specs.Place.{at, names, span}
+
+abbrev pub event : Kind → Span → Span → ℕ → Event
+event kind piece content name = record { kind = kind; piece = piece; content = content; name = name }
+
+abbrev pub refusal : Error → Position → Span → Refusal
+refusal error place piece = record { error = error; place = place; piece = piece }
+
+-- "A fresh reader has Init, 0, 0, the slice's length and the settings given"
+unfoldable pub fresh : ℕ → Config → Reader
+fresh n c = record { phase = Phase.Init; position = at 0; depth = names 0; length = n; settings = c }
+
+-- 16: "slice too long, on making a reader", "no reader made, place 0", "the piece of 16 and 17 is 0..0"
+unfoldable pub made : ℕ → Config → Made
+made n c = pick (ltb longest n) (Made.Refused (refusal Error.SliceTooLong (at 0) (span 0 0))) (Made.Fresh (fresh n c))
+
+-- in another phase at another place
+unfoldable pub moved : Reader → Phase → ℕ → Reader
+moved r next place = record { phase = next; position = at place; depth = r .depth; length = r .length; settings = r .settings }
+
+-- with another count of open names
+unfoldable pub withDepth : Reader → Depth → Reader
+withDepth r d = record { phase = r .phase; position = r .position; depth = d; length = r .length; settings = r .settings }
+
+-- an event; the reader goes on after its piece
+unfoldable pub told : Reader → Event → Phase → Step
+told r e next = record { reader = moved r next (e .piece .to); answer = Answer.Event e }
+
+-- Eof, "with the same piece and its content empty at the piece's start"
+unfoldable pub ended : Reader → Span → Step
+ended r piece = told r (event Kind.Eof piece (span (piece .from) (piece .from)) 0) Phase.Done
+
+-- a refusal; "a piece from the piece's start to the position left"
+unfoldable pub refused : Reader → Error → Position → Span → Phase → Step
+refused r e place piece next = record { reader = moved r next (piece .to); answer = Answer.Refused (refusal e place piece) }
+
+-- one that ends the run
+unfoldable pub stopped : Reader → Error → Position → Span → Step
+stopped r e place piece = refused r e place piece Phase.Done
+
+-- 17: "all unchanged, place 0"
+unfoldable pub badState : Reader → Step
+badState r = record { reader = r; answer = Answer.Refused (refusal Error.BadState (at 0) (span 0 0)) }

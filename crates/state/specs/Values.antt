@@ -1,0 +1,80 @@
+-- The paper's number and values for every answer.
+use Prim.Native.Nat.{ℕ}
+use Rattle.state.specs.declared.place.Span.{Span}
+use Rattle.state.specs.declared.answer.Kind.{Kind}
+use Rattle.state.specs.declared.answer.Event.{Event}
+use Rattle.state.specs.declared.answer.Error.{Error}
+use Rattle.state.specs.declared.answer.Refusal.{Refusal}
+use Rattle.state.specs.declared.answer.Answer.{Answer}
+use Rattle.state.specs.declared.answer.Numbered.{Numbered}
+use Rattle.state.specs.declared.answer.Values.{Values}
+use Rattle.state.specs.Place.{span}
+
+-- the kinds of event, from 1 in the order of the program's words: start, end, empty, text, ref, comment, cdata, decl, pi, eof
+abbrev pub kindNumber : Kind → ℕ
+kindNumber Kind.Start = 1
+kindNumber Kind.End = 2
+kindNumber Kind.Empty = 3
+kindNumber Kind.Text = 4
+kindNumber Kind.GeneralRef = 5
+kindNumber Kind.Comment = 6
+kindNumber Kind.CData = 7
+kindNumber Kind.Decl = 8
+kindNumber Kind.PI = 9
+kindNumber Kind.Eof = 10
+
+-- a refusal without spans of its own
+abbrev pub plain : ℕ → Numbered
+plain n = record { number = n; expected = span 0 0; found = span 0 0 }
+
+-- the refusals (document 01, "When a call is refused"): "MismatchedEndTag (with expected and found spans), UnmatchedEndTag (with found span)"
+abbrev pub numberedOf : Error → Numbered
+numberedOf Error.UnclosedTag = plain 1
+numberedOf Error.UnclosedSingleQuotedAttributeValue = plain 2
+numberedOf Error.UnclosedDoubleQuotedAttributeValue = plain 3
+numberedOf Error.UnclosedComment = plain 4
+numberedOf Error.UnclosedCData = plain 5
+numberedOf Error.UnclosedPI = plain 6
+numberedOf Error.UnclosedXmlDecl = plain 7
+numberedOf Error.InvalidBangMarkup = plain 8
+numberedOf Error.DoubleHyphenInComment = plain 9
+numberedOf (Error.MismatchedEndTag expected found) = record { number = 10; expected = expected; found = found }
+numberedOf (Error.UnmatchedEndTag found) = record { number = 11; expected = span 0 0; found = found }
+numberedOf Error.UnclosedReference = plain 12
+numberedOf Error.Encoding = plain 13
+numberedOf Error.DocType = plain 14
+numberedOf Error.NameStackFull = plain 15
+numberedOf Error.SliceTooLong = plain 16
+numberedOf Error.BadState = plain 17
+
+-- "Each answer has a kind, the piece (start, end), the content (start, end) and a name length"; the rest is 0
+abbrev pub eventValues : Event → Values
+eventValues e =
+    record {
+      kind = kindNumber (e .kind);
+      number = 0;
+      place = 0;
+      piece = e .piece;
+      content = e .content;
+      name = e .name;
+      expected = span 0 0;
+      found = span 0 0;
+    }
+
+-- "A refusal has its number, its place, and a piece from the piece's start to the position left"; the rest is 0
+abbrev pub refusalValues : Refusal → Values
+refusalValues x =
+    record {
+      kind = 0;
+      number = numberedOf (x .error) .number;
+      place = x .place .0;
+      piece = x .piece;
+      content = span 0 0;
+      name = 0;
+      expected = numberedOf (x .error) .expected;
+      found = numberedOf (x .error) .found;
+    }
+
+abbrev pub valuesOf : Answer → Values
+valuesOf (Answer.Event e) = eventValues e
+valuesOf (Answer.Refused x) = refusalValues x

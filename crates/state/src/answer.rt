@@ -1,0 +1,198 @@
+// The answers of a call: an event or a refusal, and the paper's numbers for each.
+use crate::place::Position;
+use crate::place::Span;
+ghost use mathlib.Core.Path.{_≡_};
+ghost use Rattle.state.specs.Values.{kindNumber, plain as plainOf, numberedOf, eventValues, refusalValues, valuesOf};
+
+pub enum Kind {
+    Start,
+    End,
+    Empty,
+    Text,
+    GeneralRef,
+    Comment,
+    CData,
+    Decl,
+    PI,
+    Eof,
+}
+
+pub struct Event {
+    pub kind: Kind,
+    pub piece: Span,
+    pub content: Span,
+    // How many bytes of the content are the name.
+    pub name: usize,
+}
+
+pub enum Error {
+    UnclosedTag,
+    UnclosedSingleQuotedAttributeValue,
+    UnclosedDoubleQuotedAttributeValue,
+    UnclosedComment,
+    UnclosedCData,
+    UnclosedPI,
+    UnclosedXmlDecl,
+    InvalidBangMarkup,
+    DoubleHyphenInComment,
+    MismatchedEndTag { expected: Span, found: Span },
+    UnmatchedEndTag(Span),
+    UnclosedReference,
+    Encoding,
+    DocType,
+    NameStackFull,
+    SliceTooLong,
+    BadState,
+}
+
+pub struct Refusal {
+    pub error: Error,
+    pub place: Position,
+    pub piece: Span,
+}
+
+pub enum Answer {
+    Event(Event),
+    Refused(Refusal),
+}
+
+// A refusal's number; of a mismatch the name that was open and the one in the closing tag; of an unmatched end the one in the closing tag.
+pub struct Numbered {
+    pub number: usize,
+    pub expected: Span,
+    pub found: Span,
+}
+
+// An answer as numbers. Of an event `number` and `place` are 0; of a refusal `kind`, `content` and `name` are; and of every answer but the two with spans of
+// their own `expected` and `found` are.
+pub struct Values {
+    pub kind: usize,
+    pub number: usize,
+    pub place: usize,
+    pub piece: Span,
+    pub content: Span,
+    pub name: usize,
+    pub expected: Span,
+    pub found: Span,
+}
+
+impl Kind {
+    // A kind's number, from 1 in the order in which the program lists its words.
+    pub fn number(self) -> usize
+        ensures { λ r. ⌜ r ≡ kindNumber self ⌝ }
+    {
+        match self {
+            Kind::Start => 1,
+            Kind::End => 2,
+            Kind::Empty => 3,
+            Kind::Text => 4,
+            Kind::GeneralRef => 5,
+            Kind::Comment => 6,
+            Kind::CData => 7,
+            Kind::Decl => 8,
+            Kind::PI => 9,
+            Kind::Eof => 10,
+        }
+    }
+}
+
+// A refusal's number, with no spans.
+fn plain(number: usize) -> Numbered
+    ensures { λ r. ⌜ r ≡ plainOf number ⌝ }
+{
+    let none = Span { from: 0, to: 0 };
+    Numbered {
+        number,
+        expected: none,
+        found: none,
+    }
+}
+
+impl Error {
+    // The number of a refusal, and its spans.
+    pub fn numbered(self) -> Numbered
+        ensures { λ r. ⌜ r ≡ numberedOf self ⌝ }
+    {
+        match self {
+            Error::UnclosedTag => plain(1),
+            Error::UnclosedSingleQuotedAttributeValue => plain(2),
+            Error::UnclosedDoubleQuotedAttributeValue => plain(3),
+            Error::UnclosedComment => plain(4),
+            Error::UnclosedCData => plain(5),
+            Error::UnclosedPI => plain(6),
+            Error::UnclosedXmlDecl => plain(7),
+            Error::InvalidBangMarkup => plain(8),
+            Error::DoubleHyphenInComment => plain(9),
+            Error::MismatchedEndTag { expected, found } => Numbered {
+                number: 10,
+                expected,
+                found,
+            },
+            Error::UnmatchedEndTag(found) => Numbered {
+                number: 11,
+                expected: Span { from: 0, to: 0 },
+                found,
+            },
+            Error::UnclosedReference => plain(12),
+            Error::Encoding => plain(13),
+            Error::DocType => plain(14),
+            Error::NameStackFull => plain(15),
+            Error::SliceTooLong => plain(16),
+            Error::BadState => plain(17),
+        }
+    }
+}
+
+impl Answer {
+    // The answer as numbers.
+    pub fn values(self) -> Values
+        ensures { λ r. ⌜ r ≡ valuesOf self ⌝ }
+    {
+        match self {
+            Answer::Event(event) => event_values(event),
+            Answer::Refused(refusal) => refusal_values(refusal),
+        }
+    }
+}
+
+fn event_values(event: Event) -> Values
+    ensures { λ r. ⌜ r ≡ eventValues event ⌝ }
+{
+    let none = Span { from: 0, to: 0 };
+    let kind = event.kind;
+    let kind = kind.number();
+    let piece = event.piece;
+    let content = event.content;
+    Values {
+        kind,
+        number: 0,
+        place: 0,
+        piece,
+        content,
+        name: event.name,
+        expected: none,
+        found: none,
+    }
+}
+
+fn refusal_values(refusal: Refusal) -> Values
+    ensures { λ r. ⌜ r ≡ refusalValues refusal ⌝ }
+{
+    let none = Span { from: 0, to: 0 };
+    let error = refusal.error;
+    let place = refusal.place;
+    let piece = refusal.piece;
+    let said = error.numbered();
+    let expected = said.expected;
+    let found = said.found;
+    Values {
+        kind: 0,
+        number: said.number,
+        place: place.0,
+        piece,
+        content: none,
+        name: 0,
+        expected,
+        found,
+    }
+}

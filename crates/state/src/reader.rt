@@ -1,0 +1,165 @@
+// The reader's state, and the makers that alone write its fields: one that makes a reader, one that ends the run, one that refuses and goes on, one for the
+// end of input, one for an event, and one for the count of open names.
+use crate::answer::Answer;
+use crate::answer::Error;
+use crate::answer::Event;
+use crate::answer::Kind;
+use crate::answer::Refusal;
+use crate::config::Config;
+use crate::limits::LONGEST;
+use crate::place::Depth;
+use crate::place::Position;
+use crate::place::Span;
+ghost use mathlib.Core.Path.{_≡_};
+ghost use lib.ListN.{length};
+ghost use Rattle.state.specs.Make.{made, moved as movedOf, withDepth, told, ended, stopped, refused, badState};
+
+// What the next bytes are read as.
+pub enum Phase {
+    Init,
+    InsideText,
+    InsideMarkup,
+    InsideRef,
+    InsideEmpty,
+    Done,
+}
+
+pub struct Reader {
+    pub phase: Phase,
+    pub position: Position,
+    // How many names are open.
+    pub depth: Depth,
+    // How many bytes the document has.
+    pub length: usize,
+    pub settings: Config,
+}
+
+// What a call answers, and the reader after it.
+pub struct Step {
+    pub reader: Reader,
+    pub answer: Answer,
+}
+
+// A reader, or why there is none.
+pub enum Made {
+    Fresh(Reader),
+    Refused(Refusal),
+}
+
+impl Reader {
+    // A reader at the start of a document. A document that is too long is refused.
+    pub fn new(document: &[u8], settings: Config) -> Made
+        ensures { λ r. ⌜ r ≡ made (length (now (document .entry))) settings ⌝ }
+    {
+        let length = document.len();
+        if LONGEST < length {
+            return Made::Refused(Refusal {
+                error: Error::SliceTooLong,
+                place: Position(0),
+                piece: Span { from: 0, to: 0 },
+            });
+        }
+        Made::Fresh(Reader {
+            phase: Phase::Init,
+            position: Position(0),
+            depth: Depth(0),
+            length,
+            settings,
+        })
+    }
+
+    // The reader in another phase at another place.
+    fn moved(self, phase: Phase, at: usize) -> Reader
+        ensures { λ r. ⌜ r ≡ movedOf self phase at ⌝ }
+    {
+        let depth = self.depth;
+        let settings = self.settings;
+        Reader {
+            phase,
+            position: Position(at),
+            depth,
+            length: self.length,
+            settings,
+        }
+    }
+
+    // The reader with another count of open names.
+    pub fn with_depth(self, depth: Depth) -> Reader
+        ensures { λ r. ⌜ r ≡ withDepth self depth ⌝ }
+    {
+        let phase = self.phase;
+        let position = self.position;
+        let settings = self.settings;
+        Reader {
+            phase,
+            position,
+            depth,
+            length: self.length,
+            settings,
+        }
+    }
+
+    // An event. The reader goes on after its piece.
+    pub fn event(self, event: Event, next: Phase) -> Step
+        ensures { λ r. ⌜ r ≡ told self event next ⌝ }
+    {
+        let reader = self.moved(next, event.piece.to);
+        Step {
+            reader,
+            answer: Answer::Event(event),
+        }
+    }
+
+    // End of file. The content is empty at the piece's start.
+    pub fn eof(self, piece: Span) -> Step
+        ensures { λ r. ⌜ r ≡ ended self piece ⌝ }
+    {
+        let content = Span {
+            from: piece.from,
+            to: piece.from,
+        };
+        let event = Event {
+            kind: Kind::Eof,
+            piece,
+            content,
+            name: 0,
+        };
+        self.event(event, Phase::Done)
+    }
+
+    // A refusal that ends the run.
+    pub fn stop(self, error: Error, place: Position, piece: Span) -> Step
+        ensures { λ r. ⌜ r ≡ stopped self error place piece ⌝ }
+    {
+        self.refuse(error, place, piece, Phase::Done)
+    }
+
+    // A refusal after which the reader goes on.
+    pub fn refuse(self, error: Error, place: Position, piece: Span, next: Phase) -> Step
+        ensures { λ r. ⌜ r ≡ refused self error place piece next ⌝ }
+    {
+        let reader = self.moved(next, piece.to);
+        Step {
+            reader,
+            answer: Answer::Refused(Refusal {
+                error,
+                place,
+                piece,
+            }),
+        }
+    }
+
+    // The refusal of a state that no run has. Nothing changes.
+    pub fn bad(self) -> Step
+        ensures { λ r. ⌜ r ≡ badState self ⌝ }
+    {
+        Step {
+            reader: self,
+            answer: Answer::Refused(Refusal {
+                error: Error::BadState,
+                place: Position(0),
+                piece: Span { from: 0, to: 0 },
+            }),
+        }
+    }
+}
