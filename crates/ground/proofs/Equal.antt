@@ -6,7 +6,7 @@ use mathlib.Core.List.{List, [], _∷_, _++_, append-nil}
 use mathlib.Core.Bool.{Bool, true, false}
 use mathlib.Core.Logic.{_↔_}
 use native.Mathlib.Omega.{arith}
-use lib.ListN.{length, getD, drop, length-append}
+use lib.ListN.{length, getD, drop, length-append, length-drop}
 use lib.Dec.{eqb}
 use borrow.Author.Needs.{needs}
 use borrow.Author.Tests.{eq-eqb, ne-eqb, eqb-true}
@@ -90,6 +90,10 @@ begins-is bs ks =
 -- and so it is as long at least
 pub begins-long : (bs ks : List ℕ) → begins bs ks ≡ true → length ks ≤ length bs
 begins-long bs ks e = omega (arith, simp length-append at (ap length (begins-to bs ks e)))
+
+-- from a place on, where a prefix with a byte in it stands
+pub begins-within : (s ks : List ℕ) (at : ℕ) → 0 < length ks → begins (drop at s) ks ≡ true → at + length ks ≤ length s
+begins-within s ks at h e = omega (arith, begins-long (drop at s) ks e, length-drop at s)
 
 same-to : (a b : List ℕ) → same a b ≡ true → a ≡ b
 unfolding same

@@ -1,0 +1,73 @@
+-- Comments and CDATA (document 01, "Steps").
+use Prim.Native.Nat.{ℕ, _+_, _-_}
+use mathlib.Core.List.{List, [], _∷_}
+use lib.ListN.{drop}
+use lib.Dec.{eqb, ltb}
+use Rattle.ground.specs.Choose.{pick}
+use Rattle.ground.specs.Bytes.{bang, hyphen, lt, openBracket}
+use Rattle.ground.specs.Part.{part}
+use Rattle.ground.specs.Equal.{begins}
+use Rattle.parser.specs.Hyphens.{pairFound}
+use Rattle.parser.specs.declared.first.Found.{Found}
+use Rattle.state.specs.declared.place.Position.{Position}
+use Rattle.state.specs.declared.place.Span.{Span}
+use Rattle.state.specs.declared.answer.Kind.{Kind}
+use Rattle.state.specs.declared.answer.Error.{Error}
+use Rattle.state.specs.declared.reader.Phase.{Phase}
+use Rattle.state.specs.declared.reader.Reader.{Reader}
+use Rattle.state.specs.declared.reader.Step.{Step}
+use Rattle.state.specs.Place.{at, inner}
+use Rattle.state.specs.Make.{event, told, refused, stopped}
+
+-- `<!--`
+abbrev pub commentOpener : List ℕ
+commentOpener = lt ∷ bang ∷ hyphen ∷ hyphen ∷ []
+
+-- `<![CDATA[`
+abbrev pub cdataOpener : List ℕ
+cdataOpener = lt ∷ bang ∷ openBracket ∷ 0x43 ∷ 0x44 ∷ 0x41 ∷ 0x54 ∷ 0x41 ∷ openBracket ∷ []
+
+-- a Comment or a CData
+unfoldable pub bangEvent : Reader → Kind → Span → Span → Step
+bangEvent r kind piece content = told r (event kind piece content 0) Phase.InsideText
+
+-- how many bytes stand after the last hyphen, with n bytes before them that are none
+unfoldable pub since : ℕ → List ℕ → ℕ
+since n [] = n
+since n (b ∷ bs) = pick (eqb b hyphen) (since 0 bs) (since (n + 1) bs)
+
+-- "the place is piece start + 4 + the bytes between the previous lone hyphen (or the opener) and the pair", for a content that starts at `from` and a
+-- pair at `pair`
+unfoldable pub hyphenPlace : List ℕ → ℕ → ℕ → Position
+hyphenPlace doc from pair = at (from + since 0 (part doc from pair))
+
+-- by cases on what was found
+module _ {A : Type 0} where
+  abbrev pub byPair : Found → (ℕ → A) → A → A
+  byPair (Found.At p) f a = f p
+  byPair Found.End f a = a
+
+-- "With `check_comments`, a comment is refused (9) if a content `-` is followed by `-` (the closer's included)": the first two hyphens in a row end at the
+-- content's end at the latest, where the closer begins
+unfoldable pub checkedComment : List ℕ → Reader → Span → Span → Step
+checkedComment doc r piece content =
+    byPair (pairFound doc (content .from))
+    (λ second. pick (ltb (content .to) second)
+    (bangEvent r Kind.Comment piece content)
+    (refused r Error.DoubleHyphenInComment (hyphenPlace doc (content .from) (second - 1)) piece Phase.InsideText))
+    (bangEvent r Kind.Comment piece content)
+
+-- "Closed but not opening `<!--` or `<![CDATA[`: 4 or 5. Content lies between opener and closer."
+unfoldable pub emitComment : List ℕ → Reader → Span → Step
+emitComment doc r piece =
+    pick (begins (drop (piece .from) doc) commentOpener)
+    (pick (r .settings .«check_comments»)
+    (checkedComment doc r piece (inner piece 4 3))
+    (bangEvent r Kind.Comment piece (inner piece 4 3)))
+    (stopped r Error.UnclosedComment (at (piece .from)) piece)
+
+unfoldable pub emitCData : List ℕ → Reader → Span → Step
+emitCData doc r piece =
+    pick (begins (drop (piece .from) doc) cdataOpener)
+    (bangEvent r Kind.CData piece (inner piece 9 3))
+    (stopped r Error.UnclosedCData (at (piece .from)) piece)

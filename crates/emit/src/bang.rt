@@ -1,0 +1,102 @@
+// Comments and CDATA.
+use ground::part;
+use ground::starts_with;
+use parser::first::Found;
+use parser::hyphens::pair_end;
+use state::answer::Error;
+use state::answer::Event;
+use state::answer::Kind;
+use state::place::Position;
+use state::place::Span;
+use state::reader::Phase;
+use state::reader::Reader;
+use state::reader::Step;
+ghost use mathlib.Core.Path.{_≡_};
+ghost use Prim.Native.Nat.{_+_, _-_, _<_, _≤_};
+ghost use lib.ListN.{length};
+ghost use Rattle.emit.specs.Bang.{since, bangEvent, checkedComment, hyphenPlace, emitComment, emitCData};
+
+// A closed piece whose third byte is a hyphen.
+pub fn emit_comment(reader: Reader, document: &[u8], piece: Span) -> Step
+    ensures { λ r. ⌜ r ≡ emitComment (now (document .entry)) reader piece ⌝ }
+{
+    if starts_with(document, piece.from, b"<!--") {
+        let content = piece.inner(4, 3);
+        if reader.settings.check_comments {
+            checked_comment(reader, document, piece, content)
+        } else {
+            event(reader, Kind::Comment, piece, content)
+        }
+    } else {
+        reader.stop(Error::UnclosedComment, Position(piece.from), piece)
+    }
+}
+
+// A closed piece whose third byte is a bracket.
+pub fn emit_cdata(reader: Reader, document: &[u8], piece: Span) -> Step
+    ensures { λ r. ⌜ r ≡ emitCData (now (document .entry)) reader piece ⌝ }
+{
+    if starts_with(document, piece.from, b"<![CDATA[") {
+        let content = piece.inner(9, 3);
+        event(reader, Kind::CData, piece, content)
+    } else {
+        reader.stop(Error::UnclosedCData, Position(piece.from), piece)
+    }
+}
+
+fn event(reader: Reader, kind: Kind, piece: Span, content: Span) -> Step
+    ensures { λ r. ⌜ r ≡ bangEvent reader kind piece content ⌝ }
+{
+    reader.event(
+        Event {
+            kind,
+            piece,
+            content,
+            name: 0,
+        },
+        Phase::InsideText,
+    )
+}
+
+// A comment that may not have `--` in it, nor a hyphen before its closer.
+fn checked_comment(reader: Reader, document: &[u8], piece: Span, content: Span) -> Step
+    ensures { λ r. ⌜ r ≡ checkedComment (now (document .entry)) reader piece content ⌝ }
+{
+    let Found::At(second) = pair_end(document, content.from) else {
+        return event(reader, Kind::Comment, piece, content);
+    };
+    if content.to < second {
+        event(reader, Kind::Comment, piece, content)
+    } else {
+        let place = hyphen_place(document, content.from, second - 1);
+        reader.refuse(
+            Error::DoubleHyphenInComment,
+            place,
+            piece,
+            Phase::InsideText,
+        )
+    }
+}
+
+// The place told for a pair of hyphens that starts at `pair`, in a content that starts at `from`.
+fn hyphen_place(document: &[u8], from: usize, pair: usize) -> Position
+    requires { ⌜ (from ≤ pair) × (pair ≤ length (now document)) ⌝ }
+    ensures { λ r. ⌜ r ≡ hyphenPlace (now (document .entry)) from pair ⌝ }
+{
+    let before = since_hyphen(part(document, from, pair));
+    Position(from + before)
+}
+
+// How many bytes stand after the last hyphen; all, where there is none.
+fn since_hyphen(s: &[u8]) -> usize
+    ensures { λ r. ⌜ r ≡ since 0 (now (s .entry)) ⌝ }
+{
+    let mut n = 0;
+    let mut i = 0;
+    while i < s.len() {
+        let b = s[i];
+        i += 1;
+        n = if b == b'-' { 0 } else { n + 1 };
+    }
+    n
+}

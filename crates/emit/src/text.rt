@@ -1,0 +1,63 @@
+// Text.
+use state::answer::Event;
+use state::answer::Kind;
+use state::config::Config;
+use state::place::Span;
+use state::reader::Phase;
+use state::reader::Reader;
+use state::reader::Step;
+use white::trim_end;
+ghost use mathlib.Core.Path.{_≡_};
+ghost use Rattle.emit.specs.Text.{textContent, emitText, emitLastText};
+
+// Text that ends before a `<` or a `&`, in the phase that comes next.
+pub fn emit_text(reader: Reader, document: &[u8], piece: Span, next: Phase) -> Step
+    ensures { λ r. ⌜ r ≡ emitText (now (document .entry)) reader piece next ⌝ }
+{
+    let settings = reader.settings;
+    let content = content(document, settings, piece);
+    reader.event(
+        Event {
+            kind: Kind::Text,
+            piece,
+            content,
+            name: 0,
+        },
+        next,
+    )
+}
+
+// Text that the document ends with: end of file where its content is empty.
+pub fn emit_last_text(reader: Reader, document: &[u8], piece: Span) -> Step
+    ensures { λ r. ⌜ r ≡ emitLastText (now (document .entry)) reader piece ⌝ }
+{
+    let settings = reader.settings;
+    let content = content(document, settings, piece);
+    if content.size() == 0 {
+        reader.eof(piece)
+    } else {
+        reader.event(
+            Event {
+                kind: Kind::Text,
+                piece,
+                content,
+                name: 0,
+            },
+            Phase::Done,
+        )
+    }
+}
+
+// The piece, without the white space at its end if that is trimmed.
+fn content(document: &[u8], settings: Config, piece: Span) -> Span
+    ensures { λ r. ⌜ r ≡ textContent (now (document .entry)) settings piece ⌝ }
+{
+    if settings.trim_text_end {
+        Span {
+            from: piece.from,
+            to: trim_end(document, piece.from, piece.to),
+        }
+    } else {
+        piece
+    }
+}
