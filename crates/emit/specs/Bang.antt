@@ -7,8 +7,8 @@ use Rattle.ground.specs.Choose.{pick}
 use Rattle.ground.specs.Bytes.{bang, hyphen, lt, openBracket}
 use Rattle.ground.specs.Part.{part}
 use Rattle.ground.specs.Equal.{begins}
+use Rattle.parser.specs.First.{byFirst}
 use Rattle.parser.specs.Hyphens.{pairFound}
-use Rattle.parser.specs.declared.first.Found.{Found}
 use Rattle.state.specs.declared.place.Position.{Position}
 use Rattle.state.specs.declared.place.Span.{Span}
 use Rattle.state.specs.declared.answer.Kind.{Kind}
@@ -41,17 +41,11 @@ since n (b ∷ bs) = pick (eqb b hyphen) (since 0 bs) (since (n + 1) bs)
 unfoldable pub hyphenPlace : List ℕ → ℕ → ℕ → Position
 hyphenPlace doc from pair = at (from + since 0 (part doc from pair))
 
--- by cases on what was found
-module _ {A : Type 0} where
-  abbrev pub byPair : Found → (ℕ → A) → A → A
-  byPair (Found.At p) f a = f p
-  byPair Found.End f a = a
-
 -- "With `check_comments`, a comment is refused (9) if a content `-` is followed by `-` (the closer's included)": the first two hyphens in a row end at the
 -- content's end at the latest, where the closer begins
 unfoldable pub checkedComment : List ℕ → Reader → Span → Span → Step
 checkedComment doc r piece content =
-    byPair (pairFound doc (content .from))
+    byFirst (pairFound doc (content .from))
     (λ second. pick (ltb (content .to) second)
     (bangEvent r Kind.Comment piece content)
     (refused r Error.DoubleHyphenInComment (hyphenPlace doc (content .from) (second - 1)) piece Phase.InsideText))

@@ -50,6 +50,11 @@ pub pick-same : {A : Type 0} (t : Bool) (x : A) → pick t x x ≡ x
 pick-same true x = refl
 pick-same false x = refl
 
+-- the last of tests that all have to pass
+pub pick-bool : (t : Bool) → pick t true false ≡ t
+pick-bool true = refl
+pick-bool false = refl
+
 -- what holds of either choice, with the test's outcome known, holds of the choice
 pub pick-cases : {A : Type 0} (M : A → Type 0) (t : Bool) (x y : A) → (t ≡ true → M x) → (t ≡ false → M y) → M (pick t x y)
 pick-cases M true x y f g = f refl

@@ -1,3 +1,4 @@
+pub mod Cases
 pub mod Machine
 pub mod Turns
 pub mod Outcome

@@ -29,6 +29,12 @@ elementAnswer (going q) = Open q
 abbrev pub elementFound : List ℕ → ℕ → Found
 elementFound s from = elementAnswer (scanAt elementStep Outside s from)
 
+-- by cases on the answer
+module _ {A : Type 0} where
+  abbrev pub byTag : Found → (ℕ → A) → A → A
+  byTag (At p) f a = f p
+  byTag (Open q) f a = a
+
 -- the state within a quote that b opened
 abbrev pub quoteOf : ℕ → ElementState
 quoteOf b = pick (eqb b apos) SingleQ DoubleQ

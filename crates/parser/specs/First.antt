@@ -25,6 +25,12 @@ firstAnswer (going u) = End
 abbrev pub firstFound : (ℕ → Bool) → List ℕ → ℕ → Found
 firstFound test s from = firstAnswer (scanAt (firstStep test) tt s from)
 
+-- by cases on the answer
+module _ {A : Type 0} where
+  abbrev pub byFirst : Found → (ℕ → A) → A → A
+  byFirst (At p) f a = f p
+  byFirst End f a = a
+
 -- the byte is one of those listed
 abbrev pub oneOf : List ℕ → ℕ → Bool
 oneOf [] b = false

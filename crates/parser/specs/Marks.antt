@@ -33,6 +33,12 @@ abbrev pub marksAnswer : Scan Marks → Found
 marksAnswer (found p) = At p
 marksAnswer (going m) = Open m
 
+-- by cases on the answer
+module _ {A : Type 0} where
+  abbrev pub byMarks : Found → (ℕ → A) → A → A
+  byMarks (At p) f a = f p
+  byMarks (Open m) f a = a
+
 -- a piece that starts at `from` with an opener of `opener` bytes
 abbrev pub marksFound : ℕ → ℕ → ℕ → List ℕ → ℕ → Found
 marksFound opener mark need s from = marksAnswer (scanAt (marksStep mark need) (passing opener) s from)

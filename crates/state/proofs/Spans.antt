@@ -1,9 +1,11 @@
 -- Laws of spans and depths, over the tests of the code. Assumes nothing.
-use Prim.Native.Nat.{ℕ, _+_, _-_, _≤_, _<_}
+use Prim.Native.Nat.{ℕ, _+_, _-_, _≤_, _<_, max}
 use mathlib.Core.Path.{_≡_, ap}
 use native.Mathlib.Omega.{arith}
 use borrow.Author.Needs.{needs}
-use borrow.Author.Tests.{le-leb, lt-leb}
+use lib.Dec.{leb}
+use borrow.Author.Tests.{le-leb, lt-leb, leb-true}
+use Rattle.ground.proofs.Choices.{pick-cases}
 use Rattle.state.specs.declared.place.Depth.{Depth}
 use Rattle.state.specs.declared.place.Span.{Span}
 use Rattle.state.specs.Place.{span, names, fewer, inner}
@@ -16,6 +18,14 @@ module _ (s : Span) (front back : ℕ) where
   pub inner-some : s .from + front + back ≤ s .to → span (s .from + front) (s .to - back) ≡ inner s front back
   unfolding inner
   inner-some h = rw (le-leb (s .from + front + back) (s .to) h)
+
+  -- it lies where the span does
+  pub inner-within : (inner s front back .from ≤ max (s .from) (s .to)) × (inner s front back .to ≤ max (s .from) (s .to))
+  unfolding inner
+  inner-within =
+      pick-cases (λ (x : Span). (x .from ≤ max (s .from) (s .to)) × (x .to ≤ max (s .from) (s .to))) (leb (s .from + front + back) (s .to)) _ _
+      (λ e. omega (arith, leb-true (s .from + front + back) (s .to) e))
+      (λ _. omega arith)
 
   pub crossed : s .to < s .from → span (s .from) (s .from) ≡ inner s front back
   crossed h = inner-none (omega arith)

@@ -68,6 +68,12 @@ checkFrom zero i (b ∷ bs) = atChar (charLen (b ∷ bs)) i (λ k. checkFrom k (
 abbrev pub check : ℕ → List ℕ → Utf8
 check i bs = checkFrom 0 i bs
 
+-- by cases on the answer
+module _ {A : Type 0} where
+  abbrev pub byUtf8 : Utf8 → A → (ℕ → A) → A
+  byUtf8 WellFormed a f = a
+  byUtf8 (IllFormed p) a f = f p
+
 -- ---- the same in the RFC's words
 
 -- a byte of each range in turn, and no more

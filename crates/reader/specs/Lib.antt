@@ -1,0 +1,4 @@
+pub mod Cut
+pub mod Names
+pub mod Sound
+pub mod Step
