@@ -1,0 +1,30 @@
+-- Any number of calls from a fresh reader, over bytes and a stack that no one else touches.
+use Prim.Native.Nat.{ℕ, zero, suc}
+use mathlib.Core.List.{List, [], _∷_}
+use lib.ListN.{length}
+use Rattle.state.specs.declared.config.Config.{Config}
+use Rattle.state.specs.declared.answer.Answer.{Answer}
+use Rattle.state.specs.declared.reader.Reader.{Reader}
+use Rattle.state.specs.Make.{fresh}
+use Rattle.reader.specs.Names.{written}
+use Rattle.reader.specs.Step.{step}
+
+-- what stands between two calls: the reader, the stack, and the answers so far, the latest first
+pub record World : Type 0 where
+  pub reader : Reader
+  pub stack : List ℕ
+  pub answers : List Answer
+
+-- one call
+unfoldable pub call : List ℕ → World → World
+call doc w =
+    record {
+      reader = step doc (w .stack) (w .reader) .reader;
+      stack = written (w .stack) (w .reader .depth .0) (step doc (w .stack) (w .reader) .answer);
+      answers = step doc (w .stack) (w .reader) .answer ∷ w .answers;
+    }
+
+-- n calls
+unfoldable pub run : List ℕ → List ℕ → Config → ℕ → World
+run doc stack c zero = record { reader = fresh (length doc) c; stack = stack; answers = [] }
+run doc stack c (suc n) = call doc (run doc stack c n)
