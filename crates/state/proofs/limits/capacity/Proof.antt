@@ -3,8 +3,6 @@ use Rattle.state.specs.Limits.{capacity}
 use borrow.Author.Tests.{lt-ltb, le-ltb}
 use Rattle.state.proofs.limits.capacity.Statement.{statement}
 use Rattle.state.proofs.limits.capacity.Tie as tie
-use Rattle.state.proofs.limits.capacity.Reads as reads
-use Rattle.state.proofs.limits.capacity.Lts as lts
 
 -- src/limits.rt:16:1
 returns : tie.Need-returns
