@@ -85,7 +85,7 @@ row doc says phase position names = record { doc = doc; shows = record { says = 
 unfoldable pub table : List Row
 table =
     -- P1: no bytes
-    (row ([])
+    (row []
     (event Kind.Eof 0 0 0 0 0 ∷ [])
     Phase.Done 0 0)
     -- P2: `<t><r n="1"/>06:15</t>`
