@@ -4,8 +4,8 @@ use crate::line::say_number;
 use crate::settings::say_settings;
 use state::answer::Values;
 use state::place::Span;
-use state::reader::Phase;
-use state::reader::Reader;
+use state::run::Phase;
+use state::run::Reader;
 
 // An event's word and five numbers, or a refusal's number, place and spans.
 pub fn say_values(values: Values) {

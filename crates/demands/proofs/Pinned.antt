@@ -14,8 +14,8 @@ use Rattle.state.specs.declared.answer.Answer.{Answer}
 use Rattle.state.specs.declared.answer.Event.{Event}
 use Rattle.state.specs.declared.answer.Refusal.{Refusal}
 use Rattle.state.specs.declared.answer.Values.{Values}
-use Rattle.state.specs.declared.reader.Reader.{Reader}
-use Rattle.state.specs.declared.reader.Step.{Step}
+use Rattle.state.specs.declared.run.Reader.{Reader}
+use Rattle.state.specs.declared.run.Step.{Step}
 use Rattle.state.specs.Limits.{capacity}
 use Rattle.state.specs.Place.{inner}
 use Rattle.state.specs.Settings.{defaults}

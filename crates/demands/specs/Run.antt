@@ -4,7 +4,7 @@ use mathlib.Core.List.{List, [], _∷_}
 use lib.ListN.{length}
 use Rattle.state.specs.declared.config.Config.{Config}
 use Rattle.state.specs.declared.answer.Answer.{Answer}
-use Rattle.state.specs.declared.reader.Reader.{Reader}
+use Rattle.state.specs.declared.run.Reader.{Reader}
 use Rattle.state.specs.Make.{fresh}
 use Rattle.reader.specs.Names.{written}
 use Rattle.reader.specs.Step.{step}

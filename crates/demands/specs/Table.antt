@@ -5,7 +5,7 @@ use lib.ListN.{length, replicate}
 use Rattle.state.specs.declared.place.Span.{Span}
 use Rattle.state.specs.declared.answer.Kind.{Kind}
 use Rattle.state.specs.declared.answer.Values.{Values}
-use Rattle.state.specs.declared.reader.Phase.{Phase}
+use Rattle.state.specs.declared.run.Phase.{Phase}
 use Rattle.state.specs.Place.{span}
 use Rattle.state.specs.Settings.{defaults}
 use Rattle.state.specs.Values.{kindNumber, valuesOf}

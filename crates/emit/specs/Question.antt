@@ -14,9 +14,9 @@ use Rattle.state.specs.declared.place.Span.{Span}
 use Rattle.state.specs.declared.answer.Kind.{Kind}
 use Rattle.state.specs.declared.answer.Event.{Event}
 use Rattle.state.specs.declared.answer.Error.{Error}
-use Rattle.state.specs.declared.reader.Phase.{Phase}
-use Rattle.state.specs.declared.reader.Reader.{Reader}
-use Rattle.state.specs.declared.reader.Step.{Step}
+use Rattle.state.specs.declared.run.Phase.{Phase}
+use Rattle.state.specs.declared.run.Reader.{Reader}
+use Rattle.state.specs.declared.run.Step.{Step}
 use Rattle.state.specs.Place.{at, size, inner}
 use Rattle.state.specs.Make.{event, told, stopped}
 

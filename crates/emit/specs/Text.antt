@@ -8,9 +8,9 @@ use Rattle.white.specs.White.{kept}
 use Rattle.state.specs.declared.place.Span.{Span}
 use Rattle.state.specs.declared.config.Config.{Config}
 use Rattle.state.specs.declared.answer.Kind.{Kind}
-use Rattle.state.specs.declared.reader.Phase.{Phase}
-use Rattle.state.specs.declared.reader.Reader.{Reader}
-use Rattle.state.specs.declared.reader.Step.{Step}
+use Rattle.state.specs.declared.run.Phase.{Phase}
+use Rattle.state.specs.declared.run.Reader.{Reader}
+use Rattle.state.specs.declared.run.Step.{Step}
 use Rattle.state.specs.Place.{span, size}
 use Rattle.state.specs.Make.{event, told, ended}
 

@@ -4,9 +4,9 @@ use state::answer::Event;
 use state::answer::Kind;
 use state::place::Position;
 use state::place::Span;
-use state::reader::Phase;
-use state::reader::Reader;
-use state::reader::Step;
+use state::run::Phase;
+use state::run::Reader;
+use state::run::Step;
 ghost use mathlib.Core.Path.{_≡_};
 ghost use Rattle.emit.specs.Reference.{emitRef, emitDangling};
 

@@ -7,8 +7,8 @@ use reader::advance;
 use state::answer::Answer;
 use state::answer::Kind;
 use state::config::Config;
-use state::reader::Made;
-use state::reader::Reader;
+use state::run::Made;
+use state::run::Reader;
 
 fn main() {
     let mut buffer = io::large_buffer();

@@ -18,7 +18,7 @@ use Rattle.parser.proofs.Cases.{first-cases, tag-cases, marks-cases}
 use Rattle.parser.proofs.Words.{element-gives, pi-gives, comment-gives, cdata-gives, text-gives, reference-gives}
 use Rattle.state.specs.declared.place.Span.{Span}
 use Rattle.state.specs.declared.answer.Error.{Error}
-use Rattle.state.specs.declared.reader.Phase.{Phase}
+use Rattle.state.specs.declared.run.Phase.{Phase}
 use Rattle.reader.specs.declared.piece.Shape.{Shape}
 use Rattle.reader.specs.declared.piece.Cut.{Cut}
 use Rattle.reader.specs.Cut.{whole, stop, phaseAt, cutText, cutRef, cutTag, cutMarked, cutBang, cutQuestion, cutMarkup, cutNext}

@@ -14,8 +14,8 @@ use Rattle.ground.proofs.Choices.{clash, pick-bool}
 use Rattle.ground.proofs.Lists.{byte-past}
 use Rattle.state.specs.declared.place.Depth.{Depth}
 use Rattle.state.specs.declared.place.Span.{Span}
-use Rattle.state.specs.declared.reader.Phase.{Phase}
-use Rattle.state.specs.declared.reader.Reader.{Reader}
+use Rattle.state.specs.declared.run.Phase.{Phase}
+use Rattle.state.specs.declared.run.Reader.{Reader}
 use Rattle.state.specs.Limits.{longest, slots, capacity}
 use Rattle.state.specs.Place.{names}
 use Rattle.state.proofs.Room.{told-slots, capacity-slots}

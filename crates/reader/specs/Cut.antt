@@ -13,7 +13,7 @@ use Rattle.parser.specs.declared.element.Found.{Found as TagFound}
 use Rattle.parser.specs.declared.element.ElementState.{ElementState}
 use Rattle.parser.specs.declared.marks.Found.{Found as MarksFound}
 use Rattle.state.specs.declared.answer.Error.{Error}
-use Rattle.state.specs.declared.reader.Phase.{Phase}
+use Rattle.state.specs.declared.run.Phase.{Phase}
 use Rattle.state.specs.Place.{at, span}
 use Rattle.state.specs.Make.{refusal}
 use Rattle.emit.specs.Question.{unclosedQuestion}

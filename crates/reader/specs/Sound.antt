@@ -6,8 +6,8 @@ use lib.ListN.{length, getD}
 use lib.Dec.{eqb, leb, ltb}
 use Rattle.ground.specs.Choose.{allOf}
 use Rattle.ground.specs.Bytes.{amp, lt}
-use Rattle.state.specs.declared.reader.Phase.{Phase}
-use Rattle.state.specs.declared.reader.Reader.{Reader}
+use Rattle.state.specs.declared.run.Phase.{Phase}
+use Rattle.state.specs.declared.run.Reader.{Reader}
 use Rattle.state.specs.Limits.{longest, capacity}
 use Rattle.reader.specs.Names.{latest}
 

@@ -14,9 +14,9 @@ use Rattle.state.specs.declared.place.Depth.{Depth}
 use Rattle.state.specs.declared.place.Span.{Span}
 use Rattle.state.specs.declared.config.Config.{Config}
 use Rattle.state.specs.declared.answer.Error.{Error}
-use Rattle.state.specs.declared.reader.Reader.{Reader}
-use Rattle.state.specs.declared.reader.Phase.{Phase}
-use Rattle.state.specs.declared.reader.Step.{Step}
+use Rattle.state.specs.declared.run.Reader.{Reader}
+use Rattle.state.specs.declared.run.Phase.{Phase}
+use Rattle.state.specs.declared.run.Step.{Step}
 use Rattle.state.specs.Limits.{capacity}
 use Rattle.state.specs.Place.{at, names, span}
 use Rattle.state.specs.Make.{ended, stopped, badState}

@@ -16,7 +16,7 @@ use state::answer::Error;
 use state::answer::Refusal;
 use state::place::Position;
 use state::place::Span;
-use state::reader::Phase;
+use state::run::Phase;
 ghost use mathlib.Core.Path.{_≡_};
 ghost use Prim.Native.Nat.{_<_};
 ghost use lib.ListN.{length};

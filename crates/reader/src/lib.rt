@@ -7,8 +7,8 @@ mod turn;
 
 use ground::part;
 use state::place::Span;
-use state::reader::Reader;
-use state::reader::Step;
+use state::run::Reader;
+use state::run::Step;
 ghost use mathlib.Core.Path.{_≡_};
 ghost use Rattle.ground.specs.Part.{part as partOf};
 ghost use Rattle.reader.specs.Step.{Stepped};

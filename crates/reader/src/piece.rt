@@ -1,7 +1,7 @@
 // The pieces that a document is cut into.
 use state::answer::Refusal;
 use state::place::Span;
-use state::reader::Phase;
+use state::run::Phase;
 
 // What a piece is read as. `LastText` is text up to the document's end, `Dangling` a reference without its `;`.
 pub enum Shape {

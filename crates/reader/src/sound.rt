@@ -3,8 +3,8 @@ use crate::names::latest;
 use ground::byte_at;
 use state::limits::LONGEST;
 use state::limits::capacity;
-use state::reader::Phase;
-use state::reader::Reader;
+use state::run::Phase;
+use state::run::Reader;
 ghost use mathlib.Core.Path.{_≡_};
 ghost use Rattle.reader.specs.Sound.{inPlace, sound as soundOf};
 

@@ -11,10 +11,10 @@ use Rattle.state.specs.declared.answer.Event.{Event}
 use Rattle.state.specs.declared.answer.Error.{Error}
 use Rattle.state.specs.declared.answer.Refusal.{Refusal}
 use Rattle.state.specs.declared.answer.Answer.{Answer}
-use Rattle.state.specs.declared.reader.Phase.{Phase}
-use Rattle.state.specs.declared.reader.Reader.{Reader}
-use Rattle.state.specs.declared.reader.Step.{Step}
-use Rattle.state.specs.declared.reader.Made.{Made}
+use Rattle.state.specs.declared.run.Phase.{Phase}
+use Rattle.state.specs.declared.run.Reader.{Reader}
+use Rattle.state.specs.declared.run.Step.{Step}
+use Rattle.state.specs.declared.run.Made.{Made}
 use Rattle.state.specs.Limits.{longest}
 use Rattle.state.specs.Place.{at, names, span}
 

@@ -3,4 +3,4 @@ pub mod answer;
 pub mod config;
 pub mod limits;
 pub mod place;
-pub mod reader;
+pub mod run;

@@ -1,8 +1,8 @@
 -- `refuse` meets its contract. Assumes nothing.
 use borrow.Author.Needs.{needs}
 use Rattle.state.specs.Make.{refused}
-use Rattle.state.proofs.reader.Reader.refuse.Statement.{statement}
-use Rattle.state.proofs.reader.Reader.refuse.Tie as tie
+use Rattle.state.proofs.run.Reader.refuse.Statement.{statement}
+use Rattle.state.proofs.run.Reader.refuse.Tie as tie
 
 returns : tie.Need-returns
 unfolding refused

@@ -1,8 +1,8 @@
 -- `eof` meets its contract. Assumes nothing.
 use borrow.Author.Needs.{needs}
 use Rattle.state.specs.Make.{ended}
-use Rattle.state.proofs.reader.Reader.eof.Statement.{statement}
-use Rattle.state.proofs.reader.Reader.eof.Tie as tie
+use Rattle.state.proofs.run.Reader.eof.Statement.{statement}
+use Rattle.state.proofs.run.Reader.eof.Tie as tie
 
 returns : tie.Need-returns
 unfolding ended

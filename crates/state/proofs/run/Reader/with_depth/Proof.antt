@@ -1,8 +1,8 @@
 -- `Reader::with_depth` meets its contract. Assumes nothing.
 use mathlib.Core.Path.{refl}
 use Rattle.state.specs.Make.{withDepth}
-use Rattle.state.proofs.reader.Reader.with_depth.Statement.{statement}
-use Rattle.state.proofs.reader.Reader.with_depth.Tie as tie
+use Rattle.state.proofs.run.Reader.with_depth.Statement.{statement}
+use Rattle.state.proofs.run.Reader.with_depth.Tie as tie
 
 returns : tie.Need-returns
 unfolding withDepth

@@ -1,8 +1,8 @@
 -- `stop` meets its contract. Assumes nothing.
 use borrow.Author.Needs.{needs}
 use Rattle.state.specs.Make.{stopped}
-use Rattle.state.proofs.reader.Reader.stop.Statement.{statement}
-use Rattle.state.proofs.reader.Reader.stop.Tie as tie
+use Rattle.state.proofs.run.Reader.stop.Statement.{statement}
+use Rattle.state.proofs.run.Reader.stop.Tie as tie
 
 returns : tie.Need-returns
 unfolding stopped

@@ -1,8 +1,8 @@
 -- `event` meets its contract. Assumes nothing.
 use borrow.Author.Needs.{needs}
 use Rattle.state.specs.Make.{told}
-use Rattle.state.proofs.reader.Reader.event.Statement.{statement}
-use Rattle.state.proofs.reader.Reader.event.Tie as tie
+use Rattle.state.proofs.run.Reader.event.Statement.{statement}
+use Rattle.state.proofs.run.Reader.event.Tie as tie
 
 returns : tie.Need-returns
 unfolding told

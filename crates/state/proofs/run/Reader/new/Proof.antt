@@ -1,8 +1,8 @@
 -- `new` meets its contract. Assumes nothing.
 use borrow.Author.Tests.{le-ltb, lt-ltb}
 use Rattle.state.specs.Make.{made, fresh}
-use Rattle.state.proofs.reader.Reader.new.Statement.{statement}
-use Rattle.state.proofs.reader.Reader.new.Tie as tie
+use Rattle.state.proofs.run.Reader.new.Statement.{statement}
+use Rattle.state.proofs.run.Reader.new.Tie as tie
 
 returns : tie.Need-returns
 unfolding made fresh

@@ -1,8 +1,8 @@
 -- `Reader::bad` meets its contract. Assumes nothing.
 use mathlib.Core.Path.{refl}
 use Rattle.state.specs.Make.{badState}
-use Rattle.state.proofs.reader.Reader.bad.Statement.{statement}
-use Rattle.state.proofs.reader.Reader.bad.Tie as tie
+use Rattle.state.proofs.run.Reader.bad.Statement.{statement}
+use Rattle.state.proofs.run.Reader.bad.Tie as tie
 
 returns : tie.Need-returns
 unfolding badState
