@@ -1,11 +1,10 @@
 -- Where a piece lies that is cut off: it starts where the cut was made, and ends there or later and in the document. Assumes nothing.
 use Prim.Native.Nat.{ℕ, _+_, _≤_, _<_}
-use mathlib.Core.Path.{_≡_, refl, sym, _∙_}
+use mathlib.Core.Path.{_≡_, refl}
 use mathlib.Core.List.{List}
 use native.Mathlib.Omega.{arith}
 use lib.ListN.{length, getD}
 use lib.Dec.{eqb, leb}
-use borrow.Author.Tests.{leb-false}
 use Rattle.ground.specs.Bytes.{amp, bang, hyphen, lowerD, lt, openBracket, question, semicolon, slash, upperD}
 use Rattle.ground.proofs.Choices.{pick-cases}
 use Rattle.parser.specs.Element.{elementFound}

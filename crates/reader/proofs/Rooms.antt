@@ -1,11 +1,10 @@
 -- There is room on the stack for what a call writes: only a Start writes, and it is given only where its name has its slots. Assumes nothing.
-use Prim.Native.Nat.{ℕ, _+_, _*_, _≤_, _<_, _^_, max}
-use mathlib.Core.Path.{_≡_, refl}
+use Prim.Native.Nat.{ℕ, _+_, _≤_, _<_, _^_, max}
+use mathlib.Core.Path.{_≡_}
 use mathlib.Core.List.{List}
-use mathlib.Core.Bool.{Bool, true, false}
 use native.Mathlib.Omega.{arith}
-use lib.ListN.{length, getD, drop}
-use lib.Dec.{eqb, ltb, leb}
+use lib.ListN.{length, drop}
+use lib.Dec.{eqb, ltb}
 use borrow.Author.Tests.{ltb-true}
 use Rattle.ground.specs.Equal.{begins}
 use Rattle.ground.specs.Part.{part}
@@ -28,10 +27,10 @@ use Rattle.state.specs.declared.answer.Error.{Error}
 use Rattle.state.specs.declared.run.Phase.{Phase}
 use Rattle.state.specs.declared.run.Reader.{Reader}
 use Rattle.state.specs.declared.run.Step.{Step}
-use Rattle.state.specs.Limits.{longest, slots, capacity}
-use Rattle.state.specs.Place.{at, names, span, further, inner, size}
+use Rattle.state.specs.Limits.{longest, capacity}
+use Rattle.state.specs.Place.{names, span, further, inner, size}
 use Rattle.state.specs.Values.{kindNumber, valuesOf}
-use Rattle.state.specs.Make.{event, told, ended, refused, stopped, badState, withDepth}
+use Rattle.state.specs.Make.{told, ended, refused, stopped, badState, withDepth}
 use Rattle.state.proofs.Spans.{inner-within}
 use Rattle.state.proofs.Room.{capacity-slots}
 use Rattle.emit.specs.Text.{textContent, emitText, emitLastText}
@@ -43,12 +42,11 @@ use Rattle.emit.specs.Start.{slashed, tag, opened, emitStart}
 use Rattle.reader.specs.declared.piece.Shape.{Shape}
 use Rattle.reader.specs.declared.piece.Piece.{Piece}
 use Rattle.reader.specs.declared.piece.Cut.{Cut}
-use Rattle.reader.specs.Cut.{cutMarkup, cutNext, cutRef}
-use Rattle.reader.specs.Names.{latest, nameOf, Room}
-use Rattle.reader.specs.Sound.{byPhase, inPlace, sound}
+use Rattle.reader.specs.Names.{latest, Room}
+use Rattle.reader.specs.Sound.{byPhase, sound}
 use Rattle.reader.specs.Step.{emittedAs, emitted, checked, taken, skipped, stepText, bom, begin, stepPhase, step}
 use Rattle.reader.proofs.Cuts.{cutSpan, Lies, next-lies, markup-lies, ref-lies}
-use Rattle.reader.proofs.States.{Sound, sound-true}
+use Rattle.reader.proofs.States.{sound-true}
 
 -- what holds of each case of the UTF-8 check holds of the choice by it
 pub utf8-cases : {A : Type 0} (M : A → Type 0) (u : Utf8) (a : A) (f : ℕ → A) → M a → ((p : ℕ) → M (f p)) → M (byUtf8 u a f)

@@ -1,5 +1,5 @@
 -- Which states are sound: the laws of the test, for the code that makes it and for whoever knows that it passed. Assumes nothing.
-use Prim.Native.Nat.{ℕ, _*_, _≤_, _<_}
+use Prim.Native.Nat.{ℕ, _≤_, _<_}
 use mathlib.Core.Path.{_≡_, refl, sym, ap, _∙_}
 use mathlib.Core.List.{List}
 use mathlib.Core.Bool.{Bool, true, false}
@@ -7,18 +7,18 @@ use native.Mathlib.Omega.{arith}
 use native.Mathlib.Decide.{decLt}
 use lib.ListN.{length, getD}
 use borrow.Author.Needs.{needs}
-use borrow.Author.Tests.{eq-eqb, ne-eqb, le-leb, lt-leb, eqb-true, leb-true, ltb-true}
+use borrow.Author.Tests.{eq-eqb, ne-eqb, le-leb, lt-leb, eqb-true, leb-true}
 use Rattle.ground.specs.Choose.{pick}
-use Rattle.ground.specs.Bytes.{amp, lt}
+use Rattle.ground.specs.Bytes.{lt}
 use Rattle.ground.proofs.Choices.{clash, pick-bool}
 use Rattle.ground.proofs.Lists.{byte-past}
 use Rattle.state.specs.declared.place.Depth.{Depth}
 use Rattle.state.specs.declared.place.Span.{Span}
 use Rattle.state.specs.declared.run.Phase.{Phase}
 use Rattle.state.specs.declared.run.Reader.{Reader}
-use Rattle.state.specs.Limits.{longest, slots, capacity}
+use Rattle.state.specs.Limits.{longest, capacity}
 use Rattle.state.specs.Place.{names}
-use Rattle.state.proofs.Room.{told-slots, capacity-slots}
+use Rattle.state.proofs.Room.{told-slots}
 use Rattle.reader.specs.Names.{latest}
 use Rattle.reader.specs.Sound.{inPlace, sound}
 
@@ -166,11 +166,3 @@ module _ (doc : List ℕ) (r : Reader) (ok : inPlace doc r ≡ true) where
 
   pub markup-in : r .phase ≡ Phase.InsideMarkup → r .position .0 < length doc
   markup-in p = stands-in doc (r .position .0) lt (markup-at p) (omega arith)
-
-  pub ref-at : r .phase ≡ Phase.InsideRef → getD doc (r .position .0) 0 ≡ amp
-  unfolding inPlace
-  ref-at p = eqb-true _ _ (simp p at ok)
-
-  pub empty-deep : r .phase ≡ Phase.InsideEmpty → 0 < r .depth .0
-  unfolding inPlace
-  empty-deep p = ltb-true _ _ (simp p at ok)

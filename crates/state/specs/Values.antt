@@ -1,6 +1,5 @@
 -- The paper's number and values for every answer.
 use Prim.Native.Nat.{ℕ}
-use Rattle.state.specs.declared.place.Span.{Span}
 use Rattle.state.specs.declared.answer.Kind.{Kind}
 use Rattle.state.specs.declared.answer.Event.{Event}
 use Rattle.state.specs.declared.answer.Error.{Error}
