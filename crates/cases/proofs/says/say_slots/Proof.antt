@@ -1,0 +1,34 @@
+-- `say_slots` is safe and ends. Assumes nothing.
+use Prim.Native.Nat.{_-_}
+use lib.ListN.{length}
+use borrow.Author.Needs.{needs}
+use Rattle.cases.proofs.says.say_slots.Statement.{statement}
+use Rattle.cases.proofs.says.say_slots.Tie as tie
+
+abbrev Inv-loop : tie.InvT-loop
+Inv-loop stack i₀ t3 t4 t5 i = Unit {0}
+
+abbrev μ-loop : tie.MeasureT-loop
+μ-loop stack i₀ t3 t4 t5 i = length stack - i
+
+pub say-slots-spec : {M : Type 1} → statement M
+say-slots-spec =
+    tie.close
+    (tie.spec
+    Inv-loop
+    μ-loop
+    (λ c. search needs)
+    (λ c. search needs)
+    (λ c. search needs)
+    (λ c. search needs)
+    (λ c κs. search needs)
+    (λ c. search needs)
+    (λ c. search needs)
+    (λ c. search needs)
+    (λ c κs. search needs)
+    (λ c. search needs)
+    (λ c. search needs)
+    (λ c. search needs)
+    (λ c. search needs)
+    (λ c κs. search needs)
+    (λ c. search needs))

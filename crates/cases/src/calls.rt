@@ -1,0 +1,178 @@
+// The cases of the reader: the calls that a line makes.
+use crate::line::bytes;
+use crate::line::number;
+use crate::line::say;
+use crate::line::values;
+use crate::line::word;
+use crate::says::say_names;
+use crate::says::say_reader;
+use crate::says::say_slots;
+use crate::says::say_values;
+use crate::settings::settings;
+use reader::advance;
+use reader::content;
+use state::answer::Kind;
+use state::place::Depth;
+use state::place::Position;
+use state::place::Span;
+use state::run::Made;
+use state::run::Phase;
+use state::run::Reader;
+ghost use mathlib.Core.Path.{_≡_};
+ghost use lib.ListN.{length};
+ghost use Rattle.io.specs.Counts.{Counts};
+
+// Writes the answers below the line, if it has one of the forms.
+pub fn answer(text: &[u8]) {
+    let end = word(text, 0);
+    let form = ground::part(text, 0, end);
+    if check::same(form, b"run") {
+        run_case(text, end);
+    } else if check::same(form, b"state") {
+        state_case(text, end);
+    } else if check::same(form, b"content") {
+        content_case(text, end);
+    }
+}
+
+// A run: its settings, its slots and its bytes stand after the space at `from`.
+fn run_case(text: &[u8], from: usize) {
+    let end = word(text, from);
+    let settings = settings(ground::part(text, from, end));
+    let slots = number(text, end);
+    let mut space = io::buffer();
+    let n = bytes(text, slots.next, &mut space);
+    let document = &space[..n];
+    let mut stack = [0usize; 8200];
+    let lent = lent(slots.value, &stack);
+    match Reader::new(document, settings) {
+        Made::Fresh(reader) => run(reader, document, &mut stack[..lent]),
+        Made::Refused(_) => say(b"  refused 16 0\n"),
+    }
+}
+
+// Calls until end of file, and once more.
+fn run(fresh: Reader, document: &[u8], stack: &mut [usize]) {
+    let last = to_end(fresh, document, stack);
+    call(last, document, stack);
+}
+
+// Calls until end of file, which comes after as many calls as the document has bytes and two more, or before. Answers the reader that is left.
+fn to_end(fresh: Reader, document: &[u8], stack: &mut [usize]) -> Reader {
+    let mut reader = fresh;
+    let mut left = document.len() + 2;
+    while 0 < left {
+        left -= 1;
+        let turn = call(reader, document, stack);
+        reader = turn.reader;
+        if turn.ended {
+            break;
+        }
+    }
+    reader
+}
+
+// A reader after a call, and whether the call answered end of file.
+struct Turn {
+    reader: Reader,
+    ended: bool,
+}
+
+fn call(reader: Reader, document: &[u8], stack: &mut [usize]) -> Turn {
+    let step = advance(reader, document, stack);
+    let after = step.reader;
+    let answer = step.answer;
+    let values = answer.values();
+    say_values(values);
+    say_names(after, stack);
+    let eof = Kind::Eof;
+    Turn {
+        reader: after,
+        ended: values.kind == eof.number(),
+    }
+}
+
+// How many slots are lent: as many as asked for, if the stack has them.
+fn lent(slots: usize, stack: &[usize]) -> usize
+    ensures { λ r. ⌜ Counts r (now (stack .entry)) ⌝ }
+{
+    if slots < stack.len() {
+        slots
+    } else {
+        stack.len()
+    }
+}
+
+// One call: the state that it starts from stands after the space at `from`, with the stack's values and the bytes behind it.
+fn state_case(text: &[u8], from: usize) {
+    let end = word(text, from);
+    let settings = settings(ground::part(text, from, end));
+    let next = word(text, end);
+    let phase = phase(ground::part(text, end, next));
+    let position = number(text, next);
+    let depth = number(text, position.next);
+    let length = number(text, depth.next);
+    let slots = number(text, length.next);
+    let reader = Reader {
+        phase,
+        position: Position(position.value),
+        depth: Depth(depth.value),
+        length: length.value,
+        settings,
+    };
+    let mut stack = filled(text, slots.next);
+    let lent = lent(slots.value, &stack);
+    let mut space = io::buffer();
+    let n = bytes(text, word(text, slots.next), &mut space);
+    one_call(reader, &space[..n], &mut stack[..lent]);
+}
+
+// A stack with the values that stand after the space at `from`, and 0 in the slots after them.
+fn filled(text: &[u8], from: usize) -> [usize; 8200]
+    ensures { λ r. ⌜ 8200 ≡ length r ⌝ }
+{
+    let mut stack = [0usize; 8200];
+    values(text, from, &mut stack);
+    stack
+}
+
+// The phase by its word, which stands after a space.
+fn phase(name: &[u8]) -> Phase {
+    if check::same(name, b" init") {
+        Phase::Init
+    } else if check::same(name, b" text") {
+        Phase::InsideText
+    } else if check::same(name, b" markup") {
+        Phase::InsideMarkup
+    } else if check::same(name, b" ref") {
+        Phase::InsideRef
+    } else if check::same(name, b" empty") {
+        Phase::InsideEmpty
+    } else {
+        Phase::Done
+    }
+}
+
+fn one_call(reader: Reader, document: &[u8], stack: &mut [usize]) {
+    let step = advance(reader, document, stack);
+    let after = step.reader;
+    let answer = step.answer;
+    say_values(answer.values());
+    say_reader(after);
+    say_slots(stack);
+}
+
+// The bytes of a span.
+fn content_case(text: &[u8], from: usize) {
+    let start = number(text, from);
+    let end = number(text, start.next);
+    let mut space = io::buffer();
+    let n = bytes(text, end.next, &mut space);
+    say(b"  ");
+    let span = Span {
+        from: start.value,
+        to: end.value,
+    };
+    say(content(&space[..n], span));
+    say(b"\n");
+}

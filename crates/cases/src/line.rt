@@ -1,0 +1,162 @@
+// The parts of a case's line, and how text and numbers are written.
+use libc::STDOUT_FILENO;
+ghost use Prim.Native.Nat.{_+_, _<_, _≤_, min};
+ghost use lib.ListN.{length};
+ghost use Rattle.io.specs.Counts.{Counts};
+
+// The first position from `from` on with the byte b, or the end.
+pub fn find(s: &[u8], from: usize, b: u8) -> usize
+    ensures { λ r. ⌜ (min from (length (now (s .entry))) ≤ r) × (r ≤ length (now (s .entry))) ⌝ }
+{
+    let mut i = from;
+    loop {
+        if s.len() <= i {
+            break s.len();
+        }
+        if s[i] == b {
+            break i;
+        }
+        i += 1;
+    }
+}
+
+// The first space after the byte at `from`, or the end: where the word after it ends.
+pub fn word(s: &[u8], from: usize) -> usize {
+    if s.len() <= from {
+        return s.len();
+    }
+    find(s, from + 1, b' ')
+}
+
+// A number, and where it ended.
+pub struct Read {
+    pub value: usize,
+    pub next: usize,
+}
+
+// The decimal number after the byte at `from`, and the position of the space or comma after it, or the end. Other bytes than digits are passed over, so `-`
+// is 0. A number that is too large for 64 bits is the largest that is not.
+pub fn number(s: &[u8], from: usize) -> Read {
+    let mut value = 0;
+    let mut i = from;
+    while i < s.len() {
+        i += 1;
+        if s.len() <= i {
+            break;
+        }
+        let b = s[i];
+        if b == b' ' {
+            break;
+        }
+        if b == b',' {
+            break;
+        }
+        value = with_digit(value, b);
+    }
+    Read { value, next: i }
+}
+
+fn with_digit(value: usize, b: u8) -> usize {
+    let digit = digit_of(b);
+    if 9 < digit {
+        return value;
+    }
+    if 1_844_674_407_370_955_160 < value {
+        return 18_446_744_073_709_551_615;
+    }
+    let tens = value * 10;
+    if 18_446_744_073_709_551_615 - tens < digit {
+        return 18_446_744_073_709_551_615;
+    }
+    tens + digit
+}
+
+// Puts the numbers after the space at `from`, with commas between them, into `out`, as far as it goes.
+pub fn values(s: &[u8], from: usize, out: &mut [usize]) {
+    let mut i = from;
+    let mut n = 0;
+    while n < out.len() {
+        let read = number(s, i);
+        out[n] = read.value;
+        n += 1;
+        i = read.next;
+        if ground::byte_at(s, i) != b',' {
+            break;
+        }
+    }
+}
+
+// What a hexadecimal digit stands for, and 16 for any other byte.
+fn digit_of(b: u8) -> usize
+    ensures { λ r. ⌜ r ≤ 16 ⌝ }
+{
+    match b {
+        b'0'..=b'9' => (b - b'0') as usize,
+        b'A'..=b'F' => (b - b'A') as usize + 10,
+        b'a'..=b'f' => (b - b'a') as usize + 10,
+        _ => 16,
+    }
+}
+
+// Puts the bytes that stand after the space at `from` into `out`, as far as it goes, and answers how many there are.
+pub fn bytes(s: &[u8], from: usize, out: &mut [u8]) -> usize
+    ensures { λ r. ⌜ Counts r (now (out .exit)) ⌝ }
+{
+    let mut i = from;
+    let mut n = 0;
+    while n < out.len() {
+        if s.len() <= i {
+            break;
+        }
+        i += 1;
+        if s.len() <= i {
+            break;
+        }
+        out[n] = byte(s, i);
+        n += 1;
+        i += digits_after(s, i);
+    }
+    n
+}
+
+// How many digits belong to the byte at `at`: two where it is `\` and hexadecimal digits follow.
+fn digits_after(s: &[u8], at: usize) -> usize
+    requires { ⌜ at < length (now s) ⌝ }
+    ensures { λ r. ⌜ at + r < length (now (s .entry)) ⌝ }
+{
+    if s[at] != b'\\' {
+        return 0;
+    }
+    if s.len() - at <= 2 {
+        return 0;
+    }
+    if 15 < digit_of(s[at + 1]) {
+        return 0;
+    }
+    if 15 < digit_of(s[at + 2]) {
+        return 0;
+    }
+    2
+}
+
+// The byte that stands at `at`, by itself or as `\` and two digits.
+fn byte(s: &[u8], at: usize) -> u8
+    requires { ⌜ at < length (now s) ⌝ }
+{
+    let n = digits_after(s, at);
+    if n == 0 {
+        return s[at];
+    }
+    ((digit_of(s[at + n - 1]) * 16 + digit_of(s[at + n])) % 256) as u8
+}
+
+// Writes text.
+pub fn say(text: &[u8]) {
+    io::write_all(STDOUT_FILENO, text);
+}
+
+// Writes text and a number.
+pub fn say_number(text: &[u8], n: usize) {
+    say(text);
+    io::print_decimal(STDOUT_FILENO, n as u64);
+}

@@ -1,0 +1,48 @@
+// Runs cases from standard input, a case to a line, and writes each line with what is answered. A line is one of
+//   NAME NUMBER NUMBER BYTES                                              a function below the reader, whose answer stands behind the line
+//   run SETTINGS SLOTS BYTES                                              every call up to end of file, and one more
+//   state SETTINGS PHASE POSITION DEPTH LENGTH SLOTS VALUES BYTES         one call, from the state given
+//   content FROM TO BYTES                                                 the bytes of a span
+// The answers to the last three stand below the line. NAME is one that `leaves.rt` has. A function that compares has its other bytes in place of the
+// second number. SETTINGS are letters of `settings.rt` or `-`. SLOTS is how many slots the lent stack has, at most 8,200, and VALUES, with commas or `-`,
+// what its first ones hold. In BYTES `\` and two hexadecimal digits stand for a byte. Any other line is written as it is. The cases together have fewer
+// than 65,536 bytes.
+mod calls;
+mod leaves;
+mod line;
+mod says;
+mod settings;
+
+use libc::STDIN_FILENO;
+
+fn main() {
+    let mut buffer = io::large_buffer();
+    let n = io::read_full(STDIN_FILENO, &mut buffer);
+    if 65536 <= n {
+        line::say(b"too long\n");
+        return;
+    }
+    run(&buffer[..n]);
+}
+
+// Each line in turn.
+fn run(s: &[u8]) {
+    let mut at = 0;
+    while at < s.len() {
+        let end = line::find(s, at, b'\n');
+        answer(ground::part(s, at, end));
+        at = end + 1;
+    }
+}
+
+// Writes a line, with its answer behind it or its answers below it. One of more than 4,096 bytes gets none.
+fn answer(text: &[u8]) {
+    line::say(text);
+    if 4096 < text.len() {
+        line::say(b" = too long\n");
+        return;
+    }
+    leaves::answer(text);
+    line::say(b"\n");
+    calls::answer(text);
+}
