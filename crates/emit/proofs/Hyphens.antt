@@ -10,6 +10,7 @@ use borrow.Author.Tests.{eq-eqb, ne-eqb}
 use Rattle.ground.specs.Bytes.{hyphen}
 use Rattle.ground.specs.Part.{part}
 use Rattle.ground.proofs.Choices.{pick-cases}
+use Rattle.ground.proofs.First.{found-has}
 use Rattle.ground.proofs.Lists.{drop-next, drop-done, part-length}
 use Rattle.parser.specs.Hyphens.{pairFound, PairEnd}
 use Rattle.parser.specs.declared.first.Found.{Found}
@@ -33,7 +34,7 @@ module _ (r n : ℕ) (s : List ℕ) (i : ℕ) (v : r ≡ since n (drop i s)) whe
 pub ruleset since-turns = (needs, since-hyphen, since-other, since-end)
 
 -- no more bytes than there are
-pub since-within : (n : ℕ) (bs : List ℕ) → since n bs ≤ n + length bs
+since-within : (n : ℕ) (bs : List ℕ) → since n bs ≤ n + length bs
 unfolding since
 since-within n [] = omega arith
 since-within n (b ∷ bs) =
@@ -48,7 +49,7 @@ place-within doc from pair h k = omega (arith, since-within 0 (part doc from pai
 -- the pair that a scan has found stands at `from` or later, and in the document
 module _ (s : List ℕ) (from p : ℕ) (r : Found) (e : r ≡ pairFound s from) (f : r ≡ At p) where
   pair-here : PairEnd s from p
-  pair-here = pair-gives s from .found p .0 (sym e ∙ f) .has
+  pair-here = found-has At _ _ (pair-gives s from) r p e f
 
   pub pair-starts : 1 ≤ p
   pair-starts = omega (arith, pair-here)

@@ -1,12 +1,11 @@
 -- Closing tags, and the ends of expanded empty elements (document 01, "Steps").
-use Prim.Native.Nat.{ℕ, _+_}
+use Prim.Native.Nat.{ℕ}
 use mathlib.Core.List.{List}
 use mathlib.Core.Bool.{Bool, false, not}
 use lib.Dec.{eqb}
 use Rattle.ground.specs.Choose.{pick}
 use Rattle.ground.specs.Part.{part}
 use Rattle.ground.specs.Equal.{same}
-use Rattle.white.specs.White.{kept}
 use Rattle.state.specs.declared.place.Span.{Span}
 use Rattle.state.specs.declared.config.Config.{Config}
 use Rattle.state.specs.declared.answer.Kind.{Kind}
@@ -16,14 +15,13 @@ use Rattle.state.specs.declared.run.Reader.{Reader}
 use Rattle.state.specs.declared.run.Step.{Step}
 use Rattle.state.specs.Place.{at, span, size, fewer, inner}
 use Rattle.state.specs.Make.{withDepth, event, told, refused}
+use Rattle.emit.specs.Text.{trimmed}
 
 -- "with trailing white space cut if trimming is on and something else is there"
 unfoldable pub closingName : List ℕ → Config → Span → Span
 closingName doc c content =
     pick (c .«trim_markup_names_in_closing_tags»)
-    (pick (eqb (content .from + kept (part doc (content .from) (content .to))) (content .from))
-    content
-    (span (content .from) (content .from + kept (part doc (content .from) (content .to)))))
+    (pick (eqb (trimmed doc content .to) (content .from)) content (trimmed doc content))
     content
 
 -- "Content and name (name length the content's)"

@@ -14,10 +14,13 @@ use Rattle.state.specs.declared.run.Step.{Step}
 use Rattle.state.specs.Place.{span, size}
 use Rattle.state.specs.Make.{event, told, ended}
 
+-- without the white space at its end
+abbrev pub trimmed : List ℕ → Span → Span
+trimmed doc s = span (s .from) (s .from + kept (part doc (s .from) (s .to)))
+
 -- "`trim_text_end` cuts the content only"
 unfoldable pub textContent : List ℕ → Config → Span → Span
-textContent doc c piece =
-    pick (c .«trim_text_end») (span (piece .from) (piece .from + kept (part doc (piece .from) (piece .to)))) piece
+textContent doc c piece = pick (c .«trim_text_end») (trimmed doc piece) piece
 
 -- "empty content is still Text"
 unfoldable pub emitText : List ℕ → Reader → Span → Phase → Step

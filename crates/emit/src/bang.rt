@@ -44,6 +44,7 @@ pub fn emit_cdata(reader: Reader, document: &[u8], piece: Span) -> Step
     }
 }
 
+// The event of a comment or CDATA.
 fn event(reader: Reader, kind: Kind, piece: Span, content: Span) -> Step
     ensures { λ r. ⌜ r ≡ bangEvent reader kind piece content ⌝ }
 {

@@ -36,15 +36,7 @@ pub fn emit_last_text(reader: Reader, document: &[u8], piece: Span) -> Step
     if content.size() == 0 {
         reader.eof(piece)
     } else {
-        reader.event(
-            Event {
-                kind: Kind::Text,
-                piece,
-                content,
-                name: 0,
-            },
-            Phase::Done,
-        )
+        emit_text(reader, document, piece, Phase::Done)
     }
 }
 

@@ -4,7 +4,6 @@ mod line;
 
 use libc::STDIN_FILENO;
 use reader::advance;
-use state::answer::Answer;
 use state::answer::Kind;
 use state::config::Config;
 use state::run::Made;
@@ -34,10 +33,7 @@ fn list(document: &[u8]) {
     let mut stack = [0usize; 128];
     match Reader::new(document, settings) {
         Made::Fresh(reader) => run(reader, document, &mut stack),
-        Made::Refused(refusal) => {
-            let answer = Answer::Refused(refusal);
-            line::say_values(answer.values());
-        }
+        Made::Refused(refusal) => line::say_values(refusal.values()),
     }
 }
 

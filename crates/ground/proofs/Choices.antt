@@ -45,6 +45,11 @@ pub ruleset choices = (needs, pick-eq, pick-ne, pick-other, pick-le, pick-nle, p
 pub clash : {A : Type 0} (t : Bool) → t ≡ true → t ≡ false → A
 clash t e f = let z : _≡_ {A = ℕ} 0 1 = cc in absurd (omega arith)
 
+-- two tests that both pass
+pub both : (t u : Bool) → pick t u false ≡ true → (t ≡ true) × (u ≡ true)
+both true u e = (refl, e)
+both false u e = clash false e refl
+
 -- a choice between two equal things
 pub pick-same : {A : Type 0} (t : Bool) (x : A) → pick t x x ≡ x
 pick-same true x = refl

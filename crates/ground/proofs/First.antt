@@ -1,6 +1,6 @@
 -- The least position with a property: there is one at most, and an answer that is right when it is given gives it. Assumes nothing.
 use Prim.Native.Nat.{ℕ}
-use mathlib.Core.Path.{_≡_, refl, ap, subst}
+use mathlib.Core.Path.{_≡_, refl, sym, ap, _∙_, subst}
 use native.Mathlib.Omega.{arith}
 use native.Mathlib.Decide.{decLt}
 use Rattle.ground.specs.Least.{Least, Nowhere, Gives}
@@ -28,3 +28,7 @@ module _ {A : Type 0} (at : ℕ → A) (apart : (p q : ℕ) → at p ≡ at q �
     found = λ q. (λ e. absurd (n q e), λ m. absurd (w q (m .has)));
     none = (λ _. w, λ _. n);
   }
+
+-- what holds of a position that an answer r gives
+pub found-has : {A : Type 0} (at : ℕ → A) (x : A) (P : ℕ → Type 0) → Gives at x P → (r : A) (p : ℕ) → r ≡ x → r ≡ at p → P p
+found-has at x P g r p e f = g .found p .0 (sym e ∙ f) .has

@@ -7,6 +7,7 @@ use lib.ListN.{length, getD}
 use lib.Dec.{eqb, leb}
 use Rattle.ground.specs.Bytes.{amp, bang, hyphen, lowerD, lt, openBracket, question, semicolon, slash, upperD}
 use Rattle.ground.proofs.Choices.{pick-cases}
+use Rattle.ground.proofs.First.{found-has}
 use Rattle.parser.specs.Element.{elementFound}
 use Rattle.parser.specs.First.{textFound, referenceFound}
 use Rattle.parser.specs.Marks.{piFound, commentFound, cdataFound}
@@ -21,7 +22,6 @@ use Rattle.state.specs.declared.run.Phase.{Phase}
 use Rattle.reader.specs.declared.piece.Shape.{Shape}
 use Rattle.reader.specs.declared.piece.Cut.{Cut}
 use Rattle.reader.specs.Cut.{whole, stop, phaseAt, cutText, cutRef, cutTag, cutMarked, cutBang, cutQuestion, cutMarkup, cutNext}
-use Rattle.reader.proofs.Ends.{found-has}
 
 -- the piece, or that of the refusal
 abbrev pub cutSpan : Cut → Span
@@ -46,7 +46,7 @@ module _ (doc : List ℕ) (from : ℕ) where
   stop-lies error left h k = record { starts = refl; ends = h; within = k }
 
   module _ (h : from ≤ length doc) where
-    pub text-lies : Here (cutText doc from)
+    text-lies : Here (cutText doc from)
     unfolding cutText
     text-lies =
         first-cases Here (textFound doc from) _ _

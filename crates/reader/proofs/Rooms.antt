@@ -43,24 +43,15 @@ use Rattle.reader.specs.declared.piece.Shape.{Shape}
 use Rattle.reader.specs.declared.piece.Piece.{Piece}
 use Rattle.reader.specs.declared.piece.Cut.{Cut}
 use Rattle.reader.specs.Names.{latest, Room}
-use Rattle.reader.specs.Sound.{byPhase, sound}
-use Rattle.reader.specs.Step.{emittedAs, emitted, checked, taken, skipped, stepText, bom, begin, stepPhase, step}
+use Rattle.reader.specs.Sound.{sound}
+use Rattle.reader.specs.Step.{emittedAs, emitted, checked, taken, skipped, stepText, bom, begin, stepIn, stepPhase, step}
 use Rattle.reader.proofs.Cuts.{cutSpan, Lies, next-lies, markup-lies, ref-lies}
 use Rattle.reader.proofs.States.{sound-true}
 
 -- what holds of each case of the UTF-8 check holds of the choice by it
-pub utf8-cases : {A : Type 0} (M : A → Type 0) (u : Utf8) (a : A) (f : ℕ → A) → M a → ((p : ℕ) → M (f p)) → M (byUtf8 u a f)
+utf8-cases : {A : Type 0} (M : A → Type 0) (u : Utf8) (a : A) (f : ℕ → A) → M a → ((p : ℕ) → M (f p)) → M (byUtf8 u a f)
 utf8-cases M Utf8.WellFormed a f g h = g
 utf8-cases M (Utf8.IllFormed p) a f g h = h p
-
--- and so for the phases
-pub phase-cases : {A : Type 0} (M : A → Type 0) (p : Phase) (a b c d e f : A) → M a → M b → M c → M d → M e → M f → M (byPhase p a b c d e f)
-phase-cases M Phase.Init a b c d e f g h i j k l = g
-phase-cases M Phase.InsideText a b c d e f g h i j k l = h
-phase-cases M Phase.InsideMarkup a b c d e f g h i j k l = i
-phase-cases M Phase.InsideRef a b c d e f g h i j k l = j
-phase-cases M Phase.InsideEmpty a b c d e f g h i j k l = k
-phase-cases M Phase.Done a b c d e f g h i j k l = l
 
 -- where text begins lies in the document
 begin-within : (doc : List ℕ) → begin doc ≤ length doc
@@ -78,7 +69,7 @@ skipped-within doc c from h =
     (λ _. h)
 
 -- no Start is told
-abbrev pub Quiet : Step → Type 0
+abbrev Quiet : Step → Type 0
 Quiet s = valuesOf (s .answer) .kind ≡ kindNumber Kind.Start → ⊥
 
 told-quiet : (r : Reader) (e : Event) (next : Phase) → (kindNumber (e .kind) ≡ kindNumber Kind.Start → ⊥) → Quiet (told r e next)
@@ -122,9 +113,12 @@ module _ (doc : List ℕ) (r : Reader) (piece : Span) where
       (λ _. told-quiet r _ next (λ e. omega arith))
       (λ _. refused-quiet r _ _ piece next)
 
-  comment-event : (content : Span) → Quiet (bangEvent r Kind.Comment piece content)
+  bang-quiet : (kind : Kind) (content : Span) → (kindNumber kind ≡ kindNumber Kind.Start → ⊥) → Quiet (bangEvent r kind piece content)
   unfolding bangEvent
-  comment-event content = told-quiet r _ Phase.InsideText (λ e. omega arith)
+  bang-quiet kind content h = told-quiet r _ Phase.InsideText h
+
+  comment-event : (content : Span) → Quiet (bangEvent r Kind.Comment piece content)
+  comment-event content = bang-quiet Kind.Comment content (λ e. omega arith)
 
   checked-quiet : (content : Span) → Quiet (checkedComment doc r piece content)
   unfolding checkedComment
@@ -140,14 +134,10 @@ module _ (doc : List ℕ) (r : Reader) (piece : Span) where
       (λ _. pick-cases Quiet (r .settings .«check_comments») _ _ (λ _. checked-quiet (inner piece 4 3)) (λ _. comment-event (inner piece 4 3)))
       (λ _. stopped-quiet r _ _ piece)
 
-  cdata-event : (content : Span) → Quiet (bangEvent r Kind.CData piece content)
-  unfolding bangEvent
-  cdata-event content = told-quiet r _ Phase.InsideText (λ e. omega arith)
-
   cdata-quiet : Quiet (emitCData doc r piece)
   unfolding emitCData
   cdata-quiet =
-      pick-cases Quiet (begins (drop (piece .from) doc) cdataOpener) _ _ (λ _. cdata-event (inner piece 9 3)) (λ _. stopped-quiet r _ _ piece)
+      pick-cases Quiet (begins (drop (piece .from) doc) cdataOpener) _ _ (λ _. bang-quiet Kind.CData (inner piece 9 3) (λ e. omega arith)) (λ _. stopped-quiet r _ _ piece)
 
   question-kind : (content : Span) → kindNumber (questionEvent doc piece content .kind) ≡ kindNumber Kind.Start → ⊥
   unfolding questionEvent
@@ -272,16 +262,13 @@ module _ (n : ℕ) (r : Reader) (cap : Depth) (fits : cap .0 ≤ capacity n) whe
     text-room from h = taken-room _ _ (next-lies doc (skipped doc (r .settings) from) h)
 
     module _ (in-doc : r .position .0 ≤ length doc) where
-      phase-room : Rooms n (r .depth .0) (stepPhase doc r last cap)
-      unfolding stepPhase
-      phase-room =
-          phase-cases (Rooms n (r .depth .0)) (r .phase) _ _ _ _ _ _
-          (text-room (begin doc) (skipped-within doc (r .settings) (begin doc) (begin-within doc)))
-          (text-room (r .position .0) (skipped-within doc (r .settings) (r .position .0) in-doc))
-          (taken-room _ _ (markup-lies doc (r .position .0) in-doc))
-          (taken-room _ _ (ref-lies doc (r .position .0) in-doc))
-          (quiet-room n (r .depth .0) (closeExpandedEmpty r last) (close-quiet r last))
-          (quiet-room n (r .depth .0) (ended r (span (r .position .0) (r .position .0))) (ended-quiet r _))
+      phase-room : (p : Phase) → Rooms n (r .depth .0) (stepIn doc r last cap p)
+      phase-room Phase.Init = text-room (begin doc) (skipped-within doc (r .settings) (begin doc) (begin-within doc))
+      phase-room Phase.InsideText = text-room (r .position .0) (skipped-within doc (r .settings) (r .position .0) in-doc)
+      phase-room Phase.InsideMarkup = taken-room _ _ (markup-lies doc (r .position .0) in-doc)
+      phase-room Phase.InsideRef = taken-room _ _ (ref-lies doc (r .position .0) in-doc)
+      phase-room Phase.InsideEmpty = quiet-room n (r .depth .0) (closeExpandedEmpty r last) (close-quiet r last)
+      phase-room Phase.Done = quiet-room n (r .depth .0) (ended r (span (r .position .0) (r .position .0))) (ended-quiet r _)
 
 -- the refusal of a bad state writes nothing
 bad-quiet : (r : Reader) → Quiet (badState r)
@@ -289,9 +276,9 @@ unfolding badState
 bad-quiet r e = omega arith
 
 pub step-room : (doc stack : List ℕ) (r : Reader) → Room (length stack) (r .depth .0) (step doc stack r .answer)
-unfolding step
+unfolding step stepPhase
 step-room doc stack r =
     pick-cases (Rooms (length stack) (r .depth .0)) (sound doc stack r) _ _
     (λ e. let s = sound-true doc stack r e in
-    phase-room (length stack) r (names (capacity (length stack))) (omega arith) doc (latest stack (r .depth .0)) (s .short) (s .in-doc))
+    phase-room (length stack) r (names (capacity (length stack))) (omega arith) doc (latest stack (r .depth .0)) (s .short) (s .in-doc) (r .phase))
     (λ _. quiet-room (length stack) (r .depth .0) (badState r) (bad-quiet r))

@@ -10,7 +10,7 @@ use borrow.Author.Needs.{needs}
 use borrow.Author.Tests.{eq-eqb, ne-eqb, le-leb, lt-leb, eqb-true, leb-true}
 use Rattle.ground.specs.Choose.{pick}
 use Rattle.ground.specs.Bytes.{lt}
-use Rattle.ground.proofs.Choices.{clash, pick-bool}
+use Rattle.ground.proofs.Choices.{both, pick-bool}
 use Rattle.ground.proofs.Lists.{byte-past}
 use Rattle.state.specs.declared.place.Depth.{Depth}
 use Rattle.state.specs.declared.place.Span.{Span}
@@ -112,11 +112,6 @@ pub record Sound (doc stack : List ℕ) (r : Reader) : Type 0 where
   pub behind : latest stack (r .depth .0) .to ≤ r .position .0
   pub in-place : inPlace doc r ≡ true
 
--- tests that all pass
-pub both : (t u : Bool) → pick t u false ≡ true → (t ≡ true) × (u ≡ true)
-both true u e = (refl, e)
-both false u e = clash false e refl
-
 module _ (doc stack : List ℕ) (r : Reader) where
   pub sound-true : sound doc stack r ≡ true → Sound doc stack r
   unfolding sound
@@ -160,7 +155,7 @@ stands-in doc i k e h = elim (decLt i (length doc)) [
 ]
 
 module _ (doc : List ℕ) (r : Reader) (ok : inPlace doc r ≡ true) where
-  pub markup-at : r .phase ≡ Phase.InsideMarkup → getD doc (r .position .0) 0 ≡ lt
+  markup-at : r .phase ≡ Phase.InsideMarkup → getD doc (r .position .0) 0 ≡ lt
   unfolding inPlace
   markup-at p = eqb-true _ _ (simp p at ok)
 

@@ -53,7 +53,7 @@ cutRef doc from =
 
 -- ---- markup; "next phase text"
 
--- "1, 2, 3: no closing `>`: outside quotes, in `'`, in `\"`"
+-- "1, 2, 3: no closing `>`: outside quotes, in `'`, in `\"`"; that an end was found does not come here
 unfoldable pub unclosedTag : TagFound → Error
 unclosedTag (TagFound.At end) = Error.UnclosedTag
 unclosedTag (TagFound.Open ElementState.Outside) = Error.UnclosedTag
@@ -67,7 +67,7 @@ cutTag doc from shape =
     (λ end. whole shape from (end + 1) Phase.InsideText)
     (stop (unclosedTag (elementFound doc from)) from (length doc))
 
--- an end that was found stands in the document
+-- (what the routine for comments and CDATA asks of its caller: an end that was found stands in the document)
 abbrev pub EndsWithin : List ℕ → MarksFound → Type 0
 EndsWithin doc found = (end : ℕ) → found ≡ MarksFound.At end → end < length doc
 
@@ -78,7 +78,8 @@ cutMarked doc from found shape error =
     (λ end. whole shape from (end + 1) Phase.InsideText)
     (stop error from (length doc))
 
--- "`!`: the third byte chooses: `[` CDATA, `-` comment, `D` or `d` gives 14, any other or none 8"; position "kept". Where there is none it is 0 here, which is another.
+-- "`!`: the third byte chooses: `[` CDATA, `-` comment, `D` or `d` gives 14, any other or none 8"; position "kept". A missing third byte reads as
+-- 0, which is none of these.
 unfoldable pub cutBang : List ℕ → ℕ → ℕ → Cut
 cutBang doc from third =
     pick (eqb third openBracket)

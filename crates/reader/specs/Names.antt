@@ -32,6 +32,6 @@ nameOf a = span (valuesOf a .content .from) (valuesOf a .content .from + valuesO
 unfoldable pub written : List ℕ → ℕ → Answer → List ℕ
 written stack d a = pick (eqb (valuesOf a .kind) (kindNumber Kind.Start)) (pushed stack d (nameOf a)) stack
 
--- n slots have room for what an answer writes
+-- (what the routine that writes asks of its caller: n slots have room for the name, and its end is a number of 64 bits)
 pub record Room (n d : ℕ) (a : Answer) : Type 0 where
   pub room : valuesOf a .kind ≡ kindNumber Kind.Start → (d * slots + 1 < n) × (nameOf a .to < 2 ^ 64)

@@ -11,29 +11,24 @@ use Rattle.state.specs.declared.run.Reader.{Reader}
 use Rattle.state.specs.Limits.{longest, capacity}
 use Rattle.reader.specs.Names.{latest}
 
--- by cases on the phase
-module _ {A : Type 0} where
-  abbrev pub byPhase : Phase → A → A → A → A → A → A → A
-  byPhase Phase.Init init text markup ref empty done = init
-  byPhase Phase.InsideText init text markup ref empty done = text
-  byPhase Phase.InsideMarkup init text markup ref empty done = markup
-  byPhase Phase.InsideRef init text markup ref empty done = ref
-  byPhase Phase.InsideEmpty init text markup ref empty done = empty
-  byPhase Phase.Done init text markup ref empty done = done
+-- whether a phase may stand where the reader does
+module _ (doc : List ℕ) (r : Reader) where
+  abbrev pub inPlaceIn : Phase → Bool
+  -- not: "Init with position or depth not 0"
+  inPlaceIn Phase.Init = allOf (eqb (r .position .0) 0 ∷ eqb (r .depth .0) 0 ∷ [])
+  inPlaceIn Phase.InsideText = true
+  -- not: "markup or reference not standing at `<` or `&`"
+  inPlaceIn Phase.InsideMarkup = eqb (getD doc (r .position .0) 0) lt
+  inPlaceIn Phase.InsideRef = eqb (getD doc (r .position .0) 0) amp
+  -- not: "InsideEmpty with depth 0"
+  inPlaceIn Phase.InsideEmpty = ltb 0 (r .depth .0)
+  inPlaceIn Phase.Done = true
 
--- not: "Init with position or depth not 0; InsideEmpty with depth 0; markup or reference not standing at `<` or `&`"
 unfoldable pub inPlace : List ℕ → Reader → Bool
-inPlace doc r =
-    byPhase (r .phase)
-    (allOf (eqb (r .position .0) 0 ∷ eqb (r .depth .0) 0 ∷ []))
-    true
-    (eqb (getD doc (r .position .0) 0) lt)
-    (eqb (getD doc (r .position .0) 0) amp)
-    (ltb 0 (r .depth .0))
-    true
+inPlace doc r = inPlaceIn doc r (r .phase)
 
 -- not: "length differs from the slice's or is over 16,777,216; position over length; depth over capacity; depth above 0 and the top entry not start ≤ end ≤
--- position", which 0..0 is, the latest name where none is open
+-- position". At depth 0 the latest name is 0..0, and passes.
 unfoldable pub sound : List ℕ → List ℕ → Reader → Bool
 sound doc stack r =
     allOf (

@@ -31,7 +31,7 @@ use Rattle.reader.specs.declared.piece.Piece.{Piece}
 use Rattle.reader.specs.declared.piece.Cut.{Cut}
 use Rattle.reader.specs.Cut.{cutMarkup, cutNext, cutRef}
 use Rattle.reader.specs.Names.{latest, written}
-use Rattle.reader.specs.Sound.{byPhase, sound}
+use Rattle.reader.specs.Sound.{sound}
 
 module _ (doc : List ℕ) (r : Reader) (last : Span) (cap : Depth) where
   -- what a piece becomes
@@ -81,16 +81,19 @@ bom = 0xEF ∷ 0xBB ∷ 0xBF ∷ []
 unfoldable pub begin : List ℕ → ℕ
 begin doc = pick (begins doc bom) 3 0
 
--- "Init: .. go on as text"; "Done: Eof, all four numbers the position, nothing changed"
-unfoldable pub stepPhase : List ℕ → Reader → Span → Depth → Step
-stepPhase doc r last cap =
-    byPhase (r .phase)
-    (stepText doc r last cap (begin doc))
-    (stepText doc r last cap (r .position .0))
-    (taken doc r last cap (cutMarkup doc (r .position .0)))
-    (taken doc r last cap (cutRef doc (r .position .0)))
-    (closeExpandedEmpty r last)
-    (ended r (span (r .position .0) (r .position .0)))
+module _ (doc : List ℕ) (r : Reader) (last : Span) (cap : Depth) where
+  abbrev pub stepIn : Phase → Step
+  -- "go on as text"
+  stepIn Phase.Init = stepText doc r last cap (begin doc)
+  stepIn Phase.InsideText = stepText doc r last cap (r .position .0)
+  stepIn Phase.InsideMarkup = taken doc r last cap (cutMarkup doc (r .position .0))
+  stepIn Phase.InsideRef = taken doc r last cap (cutRef doc (r .position .0))
+  stepIn Phase.InsideEmpty = closeExpandedEmpty r last
+  -- "Done: Eof, all four numbers the position, nothing changed"
+  stepIn Phase.Done = ended r (span (r .position .0) (r .position .0))
+
+  unfoldable pub stepPhase : Step
+  stepPhase = stepIn (r .phase)
 
 -- THE DEFINITION of a call: what it answers and the reader that it leaves
 unfoldable pub step : List ℕ → List ℕ → Reader → Step

@@ -1,4 +1,4 @@
-// Whether a state is one that a run over this document and this stack can have.
+// Which states are refused.
 use crate::names::latest;
 use ground::byte_at;
 use state::limits::LONGEST;
@@ -8,6 +8,7 @@ use state::run::Reader;
 ghost use mathlib.Core.Path.{_≡_};
 ghost use Rattle.reader.specs.Sound.{inPlace, sound as soundOf};
 
+// Whether the state is not refused over this document and this stack.
 pub fn sound(reader: Reader, document: &[u8], stack: &[usize]) -> bool
     ensures { λ r. ⌜ r ≡ soundOf (now (document .entry)) (now (stack .entry)) reader ⌝ }
 {

@@ -35,6 +35,7 @@ ghost use mathlib.Core.Bool.{true};
 ghost use Rattle.reader.specs.Sound.{inPlace};
 ghost use Rattle.reader.specs.Step.{begin as beginOf, skipped, illPlace, emitted, checked as checkedOf, taken, stepText, stepPhase, step};
 
+// The answer and the reader after it; a bad state is refused first.
 pub fn decide(reader: Reader, document: &[u8], stack: &[usize]) -> Step
     ensures { λ r. ⌜ r ≡ step (now (document .entry)) (now (stack .entry)) reader ⌝ }
 {

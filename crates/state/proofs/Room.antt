@@ -10,7 +10,7 @@ use Rattle.state.specs.Place.{names}
 use Rattle.state.specs.Limits.{most, slots, capacity}
 
 -- half the slots at most, and the most names at most
-pub capacity-half : (n : ℕ) → (capacity n ≤ n / slots) × (capacity n ≤ most)
+capacity-half : (n : ℕ) → (capacity n ≤ n / slots) × (capacity n ≤ most)
 unfolding capacity
 capacity-half n =
     pick-cases (λ k. (k ≤ n / slots) × (k ≤ most)) (ltb (n / slots) most) (n / slots) most

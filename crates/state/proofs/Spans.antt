@@ -11,11 +11,11 @@ use Rattle.state.specs.declared.place.Span.{Span}
 use Rattle.state.specs.Place.{span, names, fewer, inner}
 
 module _ (s : Span) (front back : ℕ) where
-  pub inner-none : s .to < s .from + front + back → span (s .from) (s .from) ≡ inner s front back
+  inner-none : s .to < s .from + front + back → span (s .from) (s .from) ≡ inner s front back
   unfolding inner
   inner-none h = rw (lt-leb (s .from + front + back) (s .to) h)
 
-  pub inner-some : s .from + front + back ≤ s .to → span (s .from + front) (s .to - back) ≡ inner s front back
+  inner-some : s .from + front + back ≤ s .to → span (s .from + front) (s .to - back) ≡ inner s front back
   unfolding inner
   inner-some h = rw (le-leb (s .from + front + back) (s .to) h)
 

@@ -1,4 +1,4 @@
--- The limits as the definitions have them; `src/limits` has them for the code. No other file says the numbers.
+-- The limits as the definitions have them; `src/limits` has them for the code. No other definition says the numbers.
 use Prim.Native.Nat.{ℕ, _/_}
 use lib.Dec.{ltb}
 use Rattle.ground.specs.Choose.{pick}

@@ -1,4 +1,4 @@
--- The paper's number and values for every answer.
+-- The paper's number and values for every answer. Kinds of event have numbers of our own: the paper numbers refusals only.
 use Prim.Native.Nat.{ℕ}
 use Rattle.state.specs.declared.answer.Kind.{Kind}
 use Rattle.state.specs.declared.answer.Event.{Event}
@@ -9,7 +9,7 @@ use Rattle.state.specs.declared.answer.Numbered.{Numbered}
 use Rattle.state.specs.declared.answer.Values.{Values}
 use Rattle.state.specs.Place.{span}
 
--- the kinds of event, from 1 in the order of the program's words: start, end, empty, text, ref, comment, cdata, decl, pi, eof
+-- the kinds of event, from 1 on
 abbrev pub kindNumber : Kind → ℕ
 kindNumber Kind.Start = 1
 kindNumber Kind.End = 2

@@ -77,7 +77,7 @@ pub struct Values {
 }
 
 impl Kind {
-    // A kind's number, from 1 in the order in which the program lists its words.
+    // A kind's number, from 1 on.
     pub fn number(self) -> usize
         ensures { λ r. ⌜ r ≡ kindNumber self ⌝ }
     {
@@ -143,56 +143,62 @@ impl Error {
     }
 }
 
+impl Event {
+    // The event as numbers.
+    pub fn values(self) -> Values
+        ensures { λ r. ⌜ r ≡ eventValues self ⌝ }
+    {
+        let none = Span { from: 0, to: 0 };
+        let kind = self.kind;
+        let kind = kind.number();
+        let piece = self.piece;
+        let content = self.content;
+        Values {
+            kind,
+            number: 0,
+            place: 0,
+            piece,
+            content,
+            name: self.name,
+            expected: none,
+            found: none,
+        }
+    }
+}
+
+impl Refusal {
+    // The refusal as numbers.
+    pub fn values(self) -> Values
+        ensures { λ r. ⌜ r ≡ refusalValues self ⌝ }
+    {
+        let none = Span { from: 0, to: 0 };
+        let error = self.error;
+        let place = self.place;
+        let piece = self.piece;
+        let said = error.numbered();
+        let expected = said.expected;
+        let found = said.found;
+        Values {
+            kind: 0,
+            number: said.number,
+            place: place.0,
+            piece,
+            content: none,
+            name: 0,
+            expected,
+            found,
+        }
+    }
+}
+
 impl Answer {
     // The answer as numbers.
     pub fn values(self) -> Values
         ensures { λ r. ⌜ r ≡ valuesOf self ⌝ }
     {
         match self {
-            Answer::Event(event) => event_values(event),
-            Answer::Refused(refusal) => refusal_values(refusal),
+            Answer::Event(event) => event.values(),
+            Answer::Refused(refusal) => refusal.values(),
         }
-    }
-}
-
-fn event_values(event: Event) -> Values
-    ensures { λ r. ⌜ r ≡ eventValues event ⌝ }
-{
-    let none = Span { from: 0, to: 0 };
-    let kind = event.kind;
-    let kind = kind.number();
-    let piece = event.piece;
-    let content = event.content;
-    Values {
-        kind,
-        number: 0,
-        place: 0,
-        piece,
-        content,
-        name: event.name,
-        expected: none,
-        found: none,
-    }
-}
-
-fn refusal_values(refusal: Refusal) -> Values
-    ensures { λ r. ⌜ r ≡ refusalValues refusal ⌝ }
-{
-    let none = Span { from: 0, to: 0 };
-    let error = refusal.error;
-    let place = refusal.place;
-    let piece = refusal.piece;
-    let said = error.numbered();
-    let expected = said.expected;
-    let found = said.found;
-    Values {
-        kind: 0,
-        number: said.number,
-        place: place.0,
-        piece,
-        content: none,
-        name: 0,
-        expected,
-        found,
     }
 }

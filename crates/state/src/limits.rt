@@ -1,4 +1,4 @@
-// The limits as the code has them; `specs/Limits` has them for the definitions. No other file says the numbers.
+// The limits as the code has them; `specs/Limits` has them for the definitions. No other code says the numbers.
 use crate::place::Depth;
 ghost use mathlib.Core.Path.{_≡_};
 ghost use Rattle.state.specs.Limits.{capacity as capacityOf};

@@ -1,5 +1,4 @@
-// The reader's state, and the makers that alone write its fields: one that makes a reader, one that ends the run, one that refuses and goes on, one for the
-// end of input, one for an event, and one for the count of open names.
+// The reader's state, and the makers: no other code of the libraries writes a reader's fields.
 use crate::answer::Answer;
 use crate::answer::Error;
 use crate::answer::Event;
@@ -134,7 +133,7 @@ impl Reader {
         self.refuse(error, place, piece, Phase::Done)
     }
 
-    // A refusal after which the reader goes on.
+    // A refusal, and the phase that comes next.
     pub fn refuse(self, error: Error, place: Position, piece: Span, next: Phase) -> Step
         ensures { λ r. ⌜ r ≡ refused self error place piece next ⌝ }
     {

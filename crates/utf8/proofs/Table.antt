@@ -10,15 +10,9 @@ use lib.ListN.{length, getD, drop}
 use lib.Dec.{T, leb, ltb}
 use borrow.Author.Tests.{le-leb, lt-leb, leb-true, leb-false, ltb-false}
 use Rattle.ground.specs.Choose.{pick}
-use Rattle.ground.proofs.Choices.{pick-same}
+use Rattle.ground.proofs.Choices.{both, pick-same}
 use Rattle.ground.proofs.Lists.{drop-next, drop-done}
 use Rattle.utf8.specs.Utf8.{Range, inRange, begins, taken, Matches, MatchesOne}
-
--- ---- two tests
-
-both : (x y : Bool) → pick x y false ≡ true → (x ≡ true) × (y ≡ true)
-both true y e = (refl, e)
-both false y e = (e, absurd (subst T (sym e) tt))
 
 -- ---- a range
 

@@ -2,7 +2,9 @@
 use borrow.Author.Needs.{needs}
 use Rattle.ground.proofs.Choices.{choices}
 use Rattle.reader.specs.Cut.{cutBang}
-use Rattle.reader.proofs.Ends.{comment-ends, cdata-ends}
+use Rattle.ground.proofs.First.{found-has}
+use Rattle.parser.specs.declared.marks.Found.{Found}
+use Rattle.parser.proofs.Words.{comment-gives, cdata-gives}
 use Rattle.reader.proofs.cut.cut_bang.Statement.{statement}
 use Rattle.reader.proofs.cut.cut_bang.Tie as tie
 
@@ -31,9 +33,9 @@ cut-bang-spec =
     tie.close
     (tie.spec
     (λ c κs. search needs)
-    (λ c κs. cdata-ends _ _ _ (c .cdata-end .ensures))
+    (λ c κs. λ p f. found-has Found.At _ _ (cdata-gives _ _) _ p (c .cdata-end .ensures) f .within)
     (λ c κs. search needs)
-    (λ c κs. comment-ends _ _ _ (c .comment-end .ensures))
+    (λ c κs. λ p f. found-has Found.At _ _ (comment-gives _ _) _ p (c .comment-end .ensures) f .within)
     (λ c κs. search needs)
     (λ c κs. search needs)
     (λ c κs. search needs)

@@ -2,7 +2,9 @@
 use Rattle.reader.specs.Cut.{cutQuestion}
 use native.Mathlib.Omega.{arith}
 use borrow.Author.Needs.{needs}
-use Rattle.reader.proofs.Ends.{pi-within}
+use Rattle.ground.proofs.First.{found-has}
+use Rattle.parser.specs.declared.marks.Found.{Found}
+use Rattle.parser.proofs.Words.{pi-gives}
 use Rattle.reader.proofs.cut.cut_question.Statement.{statement}
 use Rattle.reader.proofs.cut.cut_question.Tie as tie
 
@@ -15,7 +17,9 @@ unfolding cutQuestion
 returns-2 c = simp (c .before .before .end .given .1, ← c .before .before .before .before .pi-end .ensures) (c .whole .ensures)
 
 end-fits : tie.Need-add-whole
-end-fits c = let h = pi-within _ _ _ _ (c .before .before .before .pi-end .ensures) (c .before .end .given .1) in omega arith
+end-fits c =
+    let h = found-has Found.At _ _ (pi-gives _ _) _ _ (c .before .before .before .pi-end .ensures) (c .before .end .given .1) in
+    omega arith
 
 pub cut-question-spec : {M : Type 1} → statement M
 cut-question-spec =

@@ -3,7 +3,9 @@ use borrow.Author.Tests.{eq-eqb, ne-eqb}
 use Rattle.reader.specs.Cut.{cutRef}
 use native.Mathlib.Omega.{arith}
 use borrow.Author.Needs.{needs}
-use Rattle.reader.proofs.Ends.{ref-within}
+use Rattle.ground.proofs.First.{found-has}
+use Rattle.parser.specs.declared.first.Found.{Found}
+use Rattle.parser.proofs.Words.{reference-gives}
 use Rattle.reader.proofs.cut.cut_ref.Statement.{statement}
 use Rattle.reader.proofs.cut.cut_ref.Tie as tie
 
@@ -20,7 +22,9 @@ unfolding cutRef
 returns-3 c = simp (← c .before .phase-at .ensures, ne-eqb _ _ (c .before .before .if1 .left), ← c .before .before .before .byte-at .ensures, c .before .before .before .before .before .end .given .1, ← c .before .before .before .before .before .before .before .reference-end .ensures) (c .whole3 .ensures)
 
 end-fits : tie.Need-add-whole
-end-fits c = let h = ref-within _ _ _ _ (c .before .before .before .before .before .reference-end .ensures) (c .before .before .before .end .given .1) in omega arith
+end-fits c =
+    let h = found-has Found.At _ _ (reference-gives _ _) _ _ (c .before .before .before .before .before .reference-end .ensures) (c .before .before .before .end .given .1) in
+    omega arith
 
 pub cut-ref-spec : {M : Type 1} → statement M
 cut-ref-spec =
