@@ -1,6 +1,6 @@
 -- Which states are sound: the laws of the test, for the code that makes it and for whoever knows that it passed. Assumes nothing.
 use Prim.Native.Nat.{ℕ, _≤_, _<_}
-use mathlib.Core.Path.{_≡_, refl, sym, ap, _∙_}
+use mathlib.Core.Path.{_≡_, sym, ap, _∙_}
 use mathlib.Core.List.{List}
 use mathlib.Core.Bool.{Bool, true, false}
 use native.Mathlib.Omega.{arith}
@@ -8,7 +8,6 @@ use native.Mathlib.Decide.{decLt}
 use lib.ListN.{length, getD}
 use borrow.Author.Needs.{needs}
 use borrow.Author.Tests.{eq-eqb, ne-eqb, le-leb, lt-leb, eqb-true, leb-true}
-use Rattle.ground.specs.Choose.{pick}
 use Rattle.ground.specs.Bytes.{lt}
 use Rattle.ground.proofs.Choices.{both, pick-bool}
 use Rattle.ground.proofs.Lists.{byte-past}
