@@ -1,2 +1,4 @@
 pub mod Run
+pub mod Answers
+pub mod Open
 pub mod Table

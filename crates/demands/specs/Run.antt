@@ -15,13 +15,17 @@ pub record World : Type 0 where
   pub stack : List ℕ
   pub answers : List Answer
 
+-- what the next call answers
+abbrev pub said : List ℕ → World → Answer
+said doc w = step doc (w .stack) (w .reader) .answer
+
 -- one call
 unfoldable pub call : List ℕ → World → World
 call doc w =
     record {
       reader = step doc (w .stack) (w .reader) .reader;
-      stack = written (w .stack) (w .reader .depth .0) (step doc (w .stack) (w .reader) .answer);
-      answers = step doc (w .stack) (w .reader) .answer ∷ w .answers;
+      stack = written (w .stack) (w .reader .depth .0) (said doc w);
+      answers = said doc w ∷ w .answers;
     }
 
 -- n calls

@@ -1,122 +1,222 @@
--- Where a piece lies that is cut off: it starts where the cut was made, and ends there or later and in the document. Assumes nothing.
+-- What a cut at a place gives: a piece that starts there and ends in the document, where its next phase may stand; or a refusal of bytes that start
+-- there. Assumes nothing.
 use Prim.Native.Nat.{ℕ, _+_, _≤_, _<_}
 use mathlib.Core.Path.{_≡_, refl}
-use mathlib.Core.List.{List}
+use mathlib.Core.List.{List, _∷_}
+use mathlib.Core.Logic.{_⊎_, inl, inr}
 use native.Mathlib.Omega.{arith}
-use lib.ListN.{length, getD}
+use lib.ListN.{length, drop, getD}
 use lib.Dec.{eqb, leb}
+use borrow.Author.Tests.{eqb-true, eqb-false}
 use Rattle.ground.specs.Bytes.{amp, bang, hyphen, lowerD, lt, openBracket, question, semicolon, slash, upperD}
+use Rattle.ground.specs.Equal.{begins}
 use Rattle.ground.proofs.Choices.{pick-cases}
 use Rattle.ground.proofs.First.{found-has}
+use Rattle.white.specs.White.{isWhite}
 use Rattle.parser.specs.Element.{elementFound}
-use Rattle.parser.specs.First.{textFound, referenceFound}
+use Rattle.parser.specs.First.{textFound, referenceFound, Among, textEnds, referenceEnds}
 use Rattle.parser.specs.Marks.{piFound, commentFound, cdataFound}
+use Rattle.parser.specs.declared.element.ElementState.{ElementState}
 use Rattle.parser.specs.declared.element.Found.{Found as TagFound}
 use Rattle.parser.specs.declared.first.Found.{Found as FirstFound}
 use Rattle.parser.specs.declared.marks.Found.{Found as MarksFound}
 use Rattle.parser.proofs.Cases.{first-cases, tag-cases, marks-cases}
 use Rattle.parser.proofs.Words.{element-gives, pi-gives, comment-gives, cdata-gives, text-gives, reference-gives}
+use Rattle.state.specs.declared.place.Position.{Position}
 use Rattle.state.specs.declared.place.Span.{Span}
 use Rattle.state.specs.declared.answer.Error.{Error}
+use Rattle.state.specs.declared.answer.Refusal.{Refusal}
 use Rattle.state.specs.declared.run.Phase.{Phase}
+use Rattle.state.specs.Place.{at}
+use Rattle.state.specs.Values.{numberedOf}
+use Rattle.emit.specs.Question.{xml, unclosedQuestion}
 use Rattle.reader.specs.declared.piece.Shape.{Shape}
+use Rattle.reader.specs.declared.piece.Piece.{Piece}
 use Rattle.reader.specs.declared.piece.Cut.{Cut}
-use Rattle.reader.specs.Cut.{whole, stop, phaseAt, cutText, cutRef, cutTag, cutMarked, cutBang, cutQuestion, cutMarkup, cutNext}
+use Rattle.reader.specs.Cut.{whole, stop, phaseAt, cutText, cutRef, unclosedTag, cutTag, cutMarked, cutBang, cutQuestion, cutMarkup, cutNext}
+use Rattle.reader.proofs.States.{stands-in}
 
--- the piece, or that of the refusal
-abbrev pub cutSpan : Cut → Span
-cutSpan (Cut.Piece p) = p .span
-cutSpan (Cut.Stop x) = x .piece
+-- how many bytes a piece has at least
+abbrev pub fewest : Shape → ℕ
+fewest Shape.Text = 1
+fewest Shape.LastText = 0
+fewest Shape.GeneralRef = 1
+fewest Shape.Dangling = 1
+fewest Shape.Comment = 1
+fewest Shape.CData = 1
+fewest Shape.QuestionMark = 1
+fewest Shape.End = 1
+fewest Shape.Start = 1
 
+-- a phase that comes after a piece may stand where the piece ends
+abbrev pub Lands : List ℕ → ℕ → Phase → Type 0
+Lands doc to Phase.Init = ⊥
+Lands doc to Phase.InsideText = Unit {0}
+Lands doc to Phase.InsideMarkup = getD doc to 0 ≡ lt
+Lands doc to Phase.InsideRef = getD doc to 0 ≡ amp
+Lands doc to Phase.InsideEmpty = ⊥
+Lands doc to Phase.Done = Unit {0}
+
+-- a refusal's number that speaks neither of names, as 10 and 11 do, nor of a bad state, 17
+abbrev pub Plain : ℕ → Type 0
+Plain n = (n ≡ 10 → ⊥) × (n ≡ 11 → ⊥) × (n ≡ 17 → ⊥)
+
+-- a span from `from` on, in the document
 pub record Lies (doc : List ℕ) (from : ℕ) (s : Span) : Type 0 where
   pub starts : s .from ≡ from
   pub ends : from ≤ s .to
   pub within : s .to ≤ length doc
 
+-- a piece that is cut off at `from`
+pub record CutOff (doc : List ℕ) (from : ℕ) (p : Piece) : Type 0 where
+  pub lies : Lies doc from (p .span)
+  pub moves : from + fewest (p .shape) ≤ p .span .to
+  pub lands : Lands doc (p .span .to) (p .next)
+
+-- a refusal of what starts at `from`
+pub record Halted (doc : List ℕ) (from : ℕ) (x : Refusal) : Type 0 where
+  pub lies : Lies doc from (x .piece)
+  pub plain : Plain (numberedOf (x .error) .number)
+
+abbrev pub CutAt : List ℕ → ℕ → Cut → Type 0
+CutAt doc from (Cut.Piece p) = CutOff doc from p
+CutAt doc from (Cut.Stop x) = Halted doc from x
+
+-- the phase at a `<` or `&`
+phase-lands : (doc : List ℕ) (end : ℕ) → Among textEnds (getD doc end 0) → Lands doc end (phaseAt doc end)
+unfolding phaseAt
+phase-lands doc end among =
+    pick-cases (Lands doc end) (eqb (getD doc end 0) lt) _ _
+    (λ e. eqb-true _ _ e)
+    (λ e. other (eqb-false _ _ e) among)
+  where
+    other : (getD doc end 0 ≡ lt → ⊥) → Among textEnds (getD doc end 0) → getD doc end 0 ≡ amp
+    other n (inl h) = absurd (n h)
+    other n (inr (inl h)) = h
+
+unclosed-tag : (found : TagFound) → Plain (numberedOf (unclosedTag found) .number)
+unfolding unclosedTag
+unclosed-tag (TagFound.At end) = omega arith
+unclosed-tag (TagFound.Open ElementState.Outside) = omega arith
+unclosed-tag (TagFound.Open ElementState.SingleQ) = omega arith
+unclosed-tag (TagFound.Open ElementState.DoubleQ) = omega arith
+
+abbrev Fine : Error → Type 0
+Fine e = Plain (numberedOf e .number)
+
+unclosed-question : (doc : List ℕ) (from : ℕ) → Plain (numberedOf (unclosedQuestion doc (at from)) .number)
+unfolding unclosedQuestion
+unclosed-question doc from =
+    pick-cases Fine (begins (drop from doc) (lt ∷ question ∷ xml)) _ _
+    (λ _. pick-cases Fine (leb (length doc) (from + 5)) _ _
+    (λ _. omega arith)
+    (λ _. pick-cases Fine (eqb (getD doc (from + 5) 0) question) _ _
+    (λ _. omega arith)
+    (λ _. pick-cases Fine (isWhite (getD doc (from + 5) 0)) _ _ (λ _. omega arith) (λ _. omega arith))))
+    (λ _. omega arith)
+
 module _ (doc : List ℕ) (from : ℕ) where
   abbrev Here : Cut → Type 0
-  Here c = Lies doc from (cutSpan c)
+  Here = CutAt doc from
 
-  whole-lies : (shape : Shape) (to : ℕ) (next : Phase) → from ≤ to → to ≤ length doc → Here (whole shape from to next)
+  whole-cut : (shape : Shape) (to : ℕ) (next : Phase) → from ≤ to → to ≤ length doc → from + fewest shape ≤ to → Lands doc to next → Here (whole shape from to next)
   unfolding whole
-  whole-lies shape to next h k = record { starts = refl; ends = h; within = k }
+  whole-cut shape to next h k m l = record { lies = record { starts = refl; ends = h; within = k }; moves = m; lands = l }
 
-  stop-lies : (error : Error) (left : ℕ) → from ≤ left → left ≤ length doc → Here (stop error from left)
+  stop-cut : (error : Error) (left : ℕ) → from ≤ left → left ≤ length doc → Plain (numberedOf error .number) → Here (stop error from left)
   unfolding stop
-  stop-lies error left h k = record { starts = refl; ends = h; within = k }
+  stop-cut error left h k p = record { lies = record { starts = refl; ends = h; within = k }; plain = p }
 
   module _ (h : from ≤ length doc) where
-    text-lies : Here (cutText doc from)
+    text-cut : (getD doc from 0 ≡ lt → ⊥) → (getD doc from 0 ≡ amp → ⊥) → Here (cutText doc from)
     unfolding cutText
-    text-lies =
+    text-cut l a =
         first-cases Here (textFound doc from) _ _
         (λ p e. let t = found-has FirstFound.At _ _ (text-gives doc from) (textFound doc from) p refl e in
-        whole-lies Shape.Text p (phaseAt doc p) (t .after) (omega (arith, t)))
-        (whole-lies Shape.LastText (length doc) Phase.Done h (omega arith))
+        let o : from ≡ p → ⊥ = λ z. here (rw z (t .among)) in
+        whole-cut Shape.Text p (phaseAt doc p) (t .after) (omega (arith, t)) (omega (arith, t .after)) (phase-lands doc p (t .among)))
+        (whole-cut Shape.LastText (length doc) Phase.Done h (omega arith) (omega arith) tt)
+      where
+        here : Among textEnds (getD doc from 0) → ⊥
+        here (inl e) = l e
+        here (inr (inl e)) = a e
 
-    pub ref-lies : Here (cutRef doc from)
+    pub ref-cut : getD doc from 0 ≡ amp → Here (cutRef doc from)
     unfolding cutRef
-    ref-lies =
+    ref-cut a =
+        let i : from < length doc = stands-in doc from amp a (omega arith) in
         first-cases Here (referenceFound doc from) _ _
         (λ p e. let t = found-has FirstFound.At _ _ (reference-gives doc from) (referenceFound doc from) p refl e in
         pick-cases Here (eqb (getD doc p 0) semicolon) _ _
-        (λ _. whole-lies Shape.GeneralRef (p + 1) Phase.InsideText (omega (arith, t)) (omega (arith, t)))
-        (λ _. whole-lies Shape.Dangling p (phaseAt doc p) (omega (arith, t)) (omega (arith, t))))
-        (whole-lies Shape.Dangling (length doc) Phase.Done h (omega arith))
+        (λ _. whole-cut Shape.GeneralRef (p + 1) Phase.InsideText (omega (arith, t)) (omega (arith, t)) (omega (arith, t)) tt)
+        (λ n. whole-cut Shape.Dangling p (phaseAt doc p) (omega (arith, t)) (omega (arith, t)) (omega (arith, t)) (phase-lands doc p (not-first (eqb-false _ _ n) (t .among)))))
+        (whole-cut Shape.Dangling (length doc) Phase.Done h (omega arith) (omega arith) tt)
+      where
+        not-first : {b : ℕ} → (b ≡ semicolon → ⊥) → Among referenceEnds b → Among textEnds b
+        not-first n (inl e) = absurd (n e)
+        not-first n (inr (inl e)) = inr (inl e)
+        not-first n (inr (inr (inl e))) = inl e
 
-    tag-lies : (shape : Shape) → Here (cutTag doc from shape)
+    -- a piece up to the byte at p, which was found
+    closed : (shape : Shape) (p : ℕ) → fewest shape ≤ 1 → (from ≤ p) × (p < length doc) → Here (whole shape from (p + 1) Phase.InsideText)
+    closed shape p f t = whole-cut shape (p + 1) Phase.InsideText (omega (arith, t)) (omega (arith, t)) (omega (arith, t, f)) tt
+
+    unclosed : (error : Error) → Plain (numberedOf error .number) → Here (stop error from (length doc))
+    unclosed error p = stop-cut error (length doc) h (omega arith) p
+
+    kept : (error : Error) → Plain (numberedOf error .number) → Here (stop error from from)
+    kept error p = stop-cut error from (omega arith) h p
+
+    tag-cut : (shape : Shape) → fewest shape ≤ 1 → Here (cutTag doc from shape)
     unfolding cutTag
-    tag-lies shape =
+    tag-cut shape f =
         tag-cases Here (elementFound doc from) _ _
-        (λ p e. let t = found-has TagFound.At _ _ (element-gives doc from) (elementFound doc from) p refl e in
-        whole-lies shape (p + 1) Phase.InsideText (omega (arith, t)) (omega (arith, t)))
-        (stop-lies _ (length doc) h (omega arith))
+        (λ p e. let t = found-has TagFound.At _ _ (element-gives doc from) (elementFound doc from) p refl e in closed shape p f (omega (arith, t)))
+        (unclosed _ (unclosed-tag (elementFound doc from)))
 
-    marked-lies : (found : MarksFound) (shape : Shape) (error : Error)
+    marked-cut : (found : MarksFound) (shape : Shape) (error : Error) → fewest shape ≤ 1 → Plain (numberedOf error .number)
         → ((p : ℕ) → found ≡ MarksFound.At p → (from ≤ p) × (p < length doc)) → Here (cutMarked doc from found shape error)
     unfolding cutMarked
-    marked-lies found shape error w =
-        marks-cases Here found _ _
-        (λ p e. whole-lies shape (p + 1) Phase.InsideText (omega (arith, w p e)) (omega (arith, w p e)))
-        (stop-lies error (length doc) h (omega arith))
+    marked-cut found shape error f q w = marks-cases Here found _ _ (λ p e. closed shape p f (w p e)) (unclosed error q)
 
-    bang-lies : (third : ℕ) → Here (cutBang doc from third)
+    bang-cut : (third : ℕ) → Here (cutBang doc from third)
     unfolding cutBang
-    bang-lies third =
+    bang-cut third =
         pick-cases Here (eqb third openBracket) _ _
-        (λ _. marked-lies (cdataFound doc from) Shape.CData Error.UnclosedCData
+        (λ _. marked-cut (cdataFound doc from) Shape.CData Error.UnclosedCData (omega arith) (omega arith)
         (λ p e. let t = found-has MarksFound.At _ _ (cdata-gives doc from) (cdataFound doc from) p refl e in omega (arith, t)))
         (λ _. pick-cases Here (eqb third hyphen) _ _
-        (λ _. marked-lies (commentFound doc from) Shape.Comment Error.UnclosedComment
+        (λ _. marked-cut (commentFound doc from) Shape.Comment Error.UnclosedComment (omega arith) (omega arith)
         (λ p e. let t = found-has MarksFound.At _ _ (comment-gives doc from) (commentFound doc from) p refl e in omega (arith, t)))
         (λ _. pick-cases Here (eqb third upperD) _ _
-        (λ _. stop-lies Error.DocType from (omega arith) h)
+        (λ _. kept Error.DocType (omega arith))
         (λ _. pick-cases Here (eqb third lowerD) _ _
-        (λ _. stop-lies Error.DocType from (omega arith) h)
-        (λ _. stop-lies Error.InvalidBangMarkup from (omega arith) h))))
+        (λ _. kept Error.DocType (omega arith))
+        (λ _. kept Error.InvalidBangMarkup (omega arith)))))
 
-    question-lies : Here (cutQuestion doc from)
+    question-cut : Here (cutQuestion doc from)
     unfolding cutQuestion
-    question-lies =
+    question-cut =
         marks-cases Here (piFound doc from) _ _
-        (λ p e. let t = found-has MarksFound.At _ _ (pi-gives doc from) (piFound doc from) p refl e in
-        whole-lies Shape.QuestionMark (p + 1) Phase.InsideText (omega (arith, t)) (omega (arith, t)))
-        (stop-lies _ (length doc) h (omega arith))
+        (λ p e. let t = found-has MarksFound.At _ _ (pi-gives doc from) (piFound doc from) p refl e in closed Shape.QuestionMark p (omega arith) (omega (arith, t)))
+        (unclosed _ (unclosed-question doc from))
 
-    pub markup-lies : Here (cutMarkup doc from)
+    pub markup-cut : Here (cutMarkup doc from)
     unfolding cutMarkup
-    markup-lies =
+    markup-cut =
         pick-cases Here (leb (length doc) (from + 1)) _ _
-        (λ _. stop-lies Error.UnclosedTag from (omega arith) h)
+        (λ _. kept Error.UnclosedTag (omega arith))
         (λ _. pick-cases Here (eqb (getD doc (from + 1) 0) bang) _ _
-        (λ _. bang-lies (getD doc (from + 2) 0))
+        (λ _. bang-cut (getD doc (from + 2) 0))
         (λ _. pick-cases Here (eqb (getD doc (from + 1) 0) question) _ _
-        (λ _. question-lies)
-        (λ _. pick-cases Here (eqb (getD doc (from + 1) 0) slash) _ _ (λ _. tag-lies Shape.End) (λ _. tag-lies Shape.Start))))
+        (λ _. question-cut)
+        (λ _. pick-cases Here (eqb (getD doc (from + 1) 0) slash) _ _ (λ _. tag-cut Shape.End (omega arith)) (λ _. tag-cut Shape.Start (omega arith)))))
 
-    pub next-lies : Here (cutNext doc from)
+    pub next-cut : Here (cutNext doc from)
     unfolding cutNext
-    next-lies =
+    next-cut =
         pick-cases Here (eqb (getD doc from 0) lt) _ _
-        (λ _. markup-lies)
-        (λ _. pick-cases Here (eqb (getD doc from 0) amp) _ _ (λ _. ref-lies) (λ _. text-lies))
+        (λ _. markup-cut)
+        (λ l. pick-cases Here (eqb (getD doc from 0) amp) _ _
+        (λ a. ref-cut (eqb-true _ _ a))
+        (λ a. text-cut (eqb-false _ _ l) (eqb-false _ _ a)))

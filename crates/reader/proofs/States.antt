@@ -8,7 +8,7 @@ use native.Mathlib.Decide.{decLt}
 use lib.ListN.{length, getD}
 use borrow.Author.Needs.{needs}
 use borrow.Author.Tests.{eq-eqb, ne-eqb, le-leb, lt-leb, eqb-true, leb-true}
-use Rattle.ground.specs.Bytes.{lt}
+use Rattle.ground.specs.Bytes.{amp, lt}
 use Rattle.ground.proofs.Choices.{both, pick-bool}
 use Rattle.ground.proofs.Lists.{byte-past}
 use Rattle.state.specs.declared.place.Depth.{Depth}
@@ -147,7 +147,7 @@ module _ (doc stack : List ℕ) (r : Reader) where
 -- ---- where the phases stand
 
 -- a byte other than 0 stands in the document
-stands-in : (doc : List ℕ) (i k : ℕ) → getD doc i 0 ≡ k → 0 < k → i < length doc
+pub stands-in : (doc : List ℕ) (i k : ℕ) → getD doc i 0 ≡ k → 0 < k → i < length doc
 stands-in doc i k e h = elim (decLt i (length doc)) [
   | yes g ↦ g
   | no g ↦ let z : 0 ≡ getD doc i 0 = byte-past doc i (omega arith) in omega arith
@@ -157,6 +157,10 @@ module _ (doc : List ℕ) (r : Reader) (ok : inPlace doc r ≡ true) where
   markup-at : r .phase ≡ Phase.InsideMarkup → getD doc (r .position .0) 0 ≡ lt
   unfolding inPlace
   markup-at p = eqb-true _ _ (simp p at ok)
+
+  pub ref-at : r .phase ≡ Phase.InsideRef → getD doc (r .position .0) 0 ≡ amp
+  unfolding inPlace
+  ref-at p = eqb-true _ _ (simp p at ok)
 
   pub markup-in : r .phase ≡ Phase.InsideMarkup → r .position .0 < length doc
   markup-in p = stands-in doc (r .position .0) lt (markup-at p) (omega arith)

@@ -1,0 +1,509 @@
+-- One call on a sound state, seen from outside: what every law on many calls goes by. A new kind of answer or another place of a refusal is shown to be
+-- such a turn here, once, and the laws above stand. Assumes nothing.
+use Prim.Native.Nat.{ℕ, _+_, _-_, _≤_, _<_}
+use mathlib.Core.Path.{_≡_, refl, sym, ap, _∙_}
+use mathlib.Core.List.{List}
+use mathlib.Core.Bool.{Bool, true, false, not}
+use native.Mathlib.Omega.{arith}
+use lib.ListN.{length, drop, getD}
+use lib.Dec.{eqb, leb, ltb}
+use borrow.Author.Tests.{eq-eqb, eqb-true, eqb-false, leb-true, ltb-true, lt-ltb}
+use Rattle.ground.specs.Equal.{begins, same}
+use Rattle.ground.specs.Part.{part}
+use Rattle.ground.proofs.Choices.{pick-cases, clash, both}
+use Rattle.ground.proofs.Equal.{begins-long, same-is}
+use Rattle.ground.proofs.Lists.{part-end}
+use Rattle.white.specs.White.{isWhite, notWhite, nameLen}
+use Rattle.white.proofs.Runs.{until-within}
+use Rattle.utf8.specs.Utf8.{check, byUtf8}
+use Rattle.utf8.specs.declared.Utf8.{Utf8}
+use Rattle.parser.specs.Hyphens.{pairFound}
+use Rattle.parser.proofs.Cases.{first-cases}
+use Rattle.state.specs.declared.place.Position.{Position}
+use Rattle.state.specs.declared.place.Depth.{Depth}
+use Rattle.state.specs.declared.place.Span.{Span}
+use Rattle.state.specs.declared.config.Config.{Config}
+use Rattle.state.specs.declared.answer.Kind.{Kind}
+use Rattle.state.specs.declared.answer.Event.{Event}
+use Rattle.state.specs.declared.answer.Error.{Error}
+use Rattle.state.specs.declared.answer.Answer.{Answer}
+use Rattle.state.specs.declared.run.Phase.{Phase}
+use Rattle.state.specs.declared.run.Reader.{Reader}
+use Rattle.state.specs.declared.run.Step.{Step}
+use Rattle.state.specs.Place.{at, span, size, fewer, further, names, inner}
+use Rattle.state.specs.Limits.{capacity}
+use Rattle.state.specs.Values.{kindNumber, numberedOf, valuesOf}
+use Rattle.state.specs.Make.{event, moved, withDepth, told, ended, refused, stopped}
+use Rattle.state.proofs.Spans.{inner-within}
+use Rattle.emit.specs.Text.{textContent, emitText, emitLastText}
+use Rattle.emit.specs.Reference.{emitRef, emitDangling}
+use Rattle.emit.specs.Bang.{commentOpener, cdataOpener, bangEvent, checkedComment, emitComment, emitCData}
+use Rattle.emit.specs.Question.{isDecl, questionEvent, emitQuestionMark}
+use Rattle.emit.specs.End.{closingName, endEvent, unmatched, differs, matched, emitEnd, closeExpandedEmpty}
+use Rattle.emit.specs.Start.{slashed, tag, opened, emitStart}
+use Rattle.reader.specs.declared.piece.Shape.{Shape}
+use Rattle.reader.specs.declared.piece.Piece.{Piece}
+use Rattle.reader.specs.declared.piece.Cut.{Cut}
+use Rattle.reader.specs.Names.{latest, nameOf}
+use Rattle.reader.specs.Sound.{inPlaceIn, inPlace, sound}
+use Rattle.reader.specs.Step.{emittedAs, emitted, checked, taken, skipped, stepText, bom, begin, stepIn, stepPhase, step}
+use Rattle.reader.proofs.Cuts.{fewest, Lands, Plain, Lies, CutOff, CutAt, next-cut, markup-cut, ref-cut}
+use Rattle.reader.proofs.States.{sound-true, ref-at}
+
+-- ---- what there is to see
+
+-- a number that falls with each call until the reader is done: more than the calls that are left before
+abbrev pub rankAt : List ℕ → ℕ → Phase → ℕ
+rankAt doc position Phase.Init = length doc + 1
+rankAt doc position Phase.InsideText = length doc - position + 1
+rankAt doc position Phase.InsideMarkup = length doc - position + 1
+rankAt doc position Phase.InsideRef = length doc - position + 1
+rankAt doc position Phase.InsideEmpty = length doc - position + 2
+rankAt doc position Phase.Done = 0
+
+abbrev pub rank : List ℕ → Reader → ℕ
+rank doc r = rankAt doc (r .position .0) (r .phase)
+
+-- an answer that says nothing of names
+abbrev pub Quiet : Answer → Type 0
+Quiet a = (valuesOf a .kind ≡ kindNumber Kind.Start → ⊥) × (valuesOf a .kind ≡ kindNumber Kind.End → ⊥) × Plain (valuesOf a .number)
+
+-- the bytes of a span
+abbrev pub bytes : List ℕ → Span → List ℕ
+bytes doc s = part doc (s .from) (s .to)
+
+-- what a call does to the names, of which there is room for `cap`, and of which `last` is the latest
+pub data Named (doc : List ℕ) (cap : ℕ) (last : Span) (r : Reader) (s : Step) : Type 0 where
+  keeps : Quiet (s .answer) → s .reader .depth .0 ≡ r .depth .0 → Named doc cap last r s
+  opens : valuesOf (s .answer) .kind ≡ kindNumber Kind.Start → r .depth .0 < cap → s .reader .depth .0 ≡ r .depth .0 + 1
+      → nameOf (s .answer) .to ≤ s .reader .position .0 → Named doc cap last r s
+  closes : valuesOf (s .answer) .kind ≡ kindNumber Kind.End → 0 < r .depth .0 → s .reader .depth .0 ≡ r .depth .0 - 1
+      → (r .settings .«check_end_names» ≡ true → bytes doc (valuesOf (s .answer) .content) ≡ bytes doc last) → Named doc cap last r s
+  mismatches : valuesOf (s .answer) .number ≡ 10 → 0 < r .depth .0 → s .reader .depth .0 ≡ r .depth .0 - 1 → r .settings .«check_end_names» ≡ true
+      → valuesOf (s .answer) .expected ≡ last → (bytes doc (valuesOf (s .answer) .found) ≡ bytes doc last → ⊥) → Named doc cap last r s
+  strays : valuesOf (s .answer) .kind ≡ kindNumber Kind.End → r .depth .0 ≡ 0 → s .reader .depth .0 ≡ 0 → r .settings .«allow_unmatched_ends» ≡ true → Named doc cap last r s
+  refuses : valuesOf (s .answer) .number ≡ 11 → r .depth .0 ≡ 0 → s .reader .depth .0 ≡ 0 → r .settings .«allow_unmatched_ends» ≡ false → Named doc cap last r s
+
+pub record Turned (doc : List ℕ) (cap : ℕ) (last : Span) (r : Reader) (s : Step) : Type 0 where
+  pub size : s .reader .length ≡ r .length
+  pub settings : s .reader .settings ≡ r .settings
+  -- the answer's piece lies between the two positions, and ends at the second
+  pub after : r .position .0 ≤ valuesOf (s .answer) .piece .from
+  pub ordered : valuesOf (s .answer) .piece .from ≤ valuesOf (s .answer) .piece .to
+  pub left : s .reader .position .0 ≡ valuesOf (s .answer) .piece .to
+  pub within : valuesOf (s .answer) .piece .to ≤ length doc
+  pub in-place : inPlace doc (s .reader) ≡ true
+  pub falls : rank doc (s .reader) ≤ rank doc r - 1
+  pub over : valuesOf (s .answer) .kind ≡ kindNumber Kind.Eof → s .reader .phase ≡ Phase.Done
+  pub no-bad : valuesOf (s .answer) .number ≡ 17 → ⊥
+  pub names : Named doc cap last r s
+
+-- ---- the two ways to answer
+
+-- a piece that starts after what was read and ends in the document
+pub record Fits (doc : List ℕ) (r : Reader) (piece : Span) : Type 0 where
+  pub after : r .position .0 ≤ piece .from
+  pub ordered : piece .from ≤ piece .to
+  pub within : piece .to ≤ length doc
+
+-- one with bytes, where the reader is not done
+pub record Some (doc : List ℕ) (r : Reader) (piece : Span) : Type 0 where
+  pub bytes : piece .from < piece .to
+  pub near : length doc - piece .from + 1 ≤ rank doc r
+
+-- another depth at most
+pub record Like (r b : Reader) : Type 0 where
+  pub size : b .length ≡ r .length
+  pub settings : b .settings ≡ r .settings
+
+-- a phase in which b may go on at `to`
+pub record Next (doc : List ℕ) (r b : Reader) (to : ℕ) (next : Phase) : Type 0 where
+  pub in-place : inPlaceIn doc (moved b next to) next ≡ true
+  pub falls : rankAt doc to next ≤ rank doc r - 1
+
+like-itself : (r : Reader) → Like r r
+like-itself r = record { size = refl; settings = refl }
+
+like-deeper : (r : Reader) (d : Depth) → Like r (withDepth r d)
+unfolding withDepth
+like-deeper r d = record { size = refl; settings = refl }
+
+-- ---- names
+
+not-false : (t : Bool) → not t ≡ false → t ≡ true
+not-false true e = refl
+not-false false e = clash true refl e
+
+not-true : (t : Bool) → not t ≡ true → t ≡ false
+not-true true e = clash false e refl
+not-true false e = refl
+
+module _ (doc : List ℕ) (c : Config) (last name : Span) where
+  agrees : differs doc c last name ≡ false → c .«check_end_names» ≡ true → bytes doc name ≡ bytes doc last
+  unfolding differs
+  agrees e on = sym (same-is (bytes doc last) (bytes doc name) .0 (not-false _ (simp on at e)))
+
+  disagrees : differs doc c last name ≡ true → (c .«check_end_names» ≡ true) × (bytes doc name ≡ bytes doc last → ⊥)
+  unfolding differs
+  disagrees e =
+      let t = both _ _ e in
+      (t .0, λ q. clash _ (same-is (bytes doc last) (bytes doc name) .1 (sym q)) (not-true _ (t .1)))
+
+-- a tag's name ends in its piece
+name-within : (doc : List ℕ) (piece : Span) (front back : ℕ) → piece .from ≤ piece .to
+    → inner piece front back .from + nameLen (bytes doc (inner piece front back)) ≤ piece .to
+name-within doc piece front back h =
+    let c = inner piece front back in
+    let i = inner-within piece front back in
+    omega (arith, i, part-end doc (c .from) (c .to), until-within isWhite (bytes doc c))
+
+-- one that ends in `/>` has three bytes at least
+slashed-long : (doc : List ℕ) (piece : Span) → slashed doc piece ≡ true → piece .from + 2 < piece .to
+unfolding slashed inner
+slashed-long doc piece e =
+    let t : inner piece 1 1 .from < inner piece 1 1 .to = ltb-true _ _ (both _ _ e .0) in
+    pick-cases (λ (x : Span). x .from < x .to → piece .from + 2 < piece .to) (leb (piece .from + 1 + 1) (piece .to)) _ _
+    (λ _ h. omega arith)
+    (λ _ h. absurd (omega arith))
+    t
+
+-- ---- one piece
+
+module _ (doc : List ℕ) (cap : ℕ) (last : Span) (r : Reader) (piece : Span) (f : Fits doc r piece) where
+  abbrev Turn : Step → Type 0
+  Turn = Turned doc cap last r
+
+  abbrev Names : Step → Type 0
+  Names = Named doc cap last r
+
+  told-turn : (b : Reader) (kind : Kind) (content : Span) (name : ℕ) (next : Phase) → Like r b → Next doc r b (piece .to) next
+      → (kindNumber kind ≡ kindNumber Kind.Eof → next ≡ Phase.Done)
+      → Names (told b (event kind piece content name) next) → Turn (told b (event kind piece content name) next)
+  unfolding told moved inPlace
+  told-turn b kind content name next l n o k =
+      record {
+        size = l .size;
+        settings = l .settings;
+        after = f .after;
+        ordered = f .ordered;
+        left = refl;
+        within = f .within;
+        in-place = n .in-place;
+        falls = n .falls;
+        over = o;
+        no-bad = λ e. omega arith;
+        names = k;
+      }
+
+  refused-turn : (b : Reader) (error : Error) (place : Position) (next : Phase) → Like r b → Next doc r b (piece .to) next
+      → (numberedOf error .number ≡ 17 → ⊥)
+      → Names (refused b error place piece next) → Turn (refused b error place piece next)
+  unfolding refused moved inPlace
+  refused-turn b error place next l n o k =
+      record {
+        size = l .size;
+        settings = l .settings;
+        after = f .after;
+        ordered = f .ordered;
+        left = refl;
+        within = f .within;
+        in-place = n .in-place;
+        falls = n .falls;
+        over = λ e. absurd (omega arith);
+        no-bad = o;
+        names = k;
+      }
+
+  -- the phases that come next
+  to-done : (b : Reader) → Next doc r b (piece .to) Phase.Done
+  to-done b = record { in-place = refl; falls = omega arith }
+
+  -- a piece with bytes
+  module _ (some : Some doc r piece) where
+    to-text : (b : Reader) → Next doc r b (piece .to) Phase.InsideText
+    to-text b = record { in-place = refl; falls = omega (arith, f, some) }
+
+    to-next : (b : Reader) (next : Phase) → Lands doc (piece .to) next → Next doc r b (piece .to) next
+    unfolding moved
+    to-next b Phase.Init l = absurd l
+    to-next b Phase.InsideText l = to-text b
+    to-next b Phase.InsideMarkup l = record { in-place = eq-eqb _ _ l; falls = omega (arith, f, some) }
+    to-next b Phase.InsideRef l = record { in-place = eq-eqb _ _ l; falls = omega (arith, f, some) }
+    to-next b Phase.InsideEmpty l = absurd l
+    to-next b Phase.Done l = to-done b
+
+  -- ---- an answer that says nothing of names
+
+  told-quiet : (kind : Kind) (content : Span) (name : ℕ) (next : Phase) → Next doc r r (piece .to) next
+      → (kindNumber kind ≡ kindNumber Kind.Start → ⊥) → (kindNumber kind ≡ kindNumber Kind.End → ⊥) → (kindNumber kind ≡ kindNumber Kind.Eof → next ≡ Phase.Done)
+      → Turn (told r (event kind piece content name) next)
+  unfolding told moved
+  told-quiet kind content name next n s e o = told-turn r kind content name next (like-itself r) n o (keeps (s, e, omega arith) refl)
+
+  refused-quiet : (error : Error) (place : Position) (next : Phase) → Next doc r r (piece .to) next → Plain (numberedOf error .number)
+      → Turn (refused r error place piece next)
+  unfolding refused moved
+  refused-quiet error place next n p = refused-turn r error place next (like-itself r) n (p .2) (keeps (λ e. omega arith, λ e. omega arith, p) refl)
+
+  stopped-quiet : (error : Error) (place : Position) → Plain (numberedOf error .number) → Turn (stopped r error place piece)
+  unfolding stopped
+  stopped-quiet error place p = refused-quiet error place Phase.Done (to-done r) p
+
+  ended-quiet : Turn (ended r piece)
+  unfolding ended
+  ended-quiet = told-quiet Kind.Eof _ 0 Phase.Done (to-done r) (λ e. omega arith) (λ e. omega arith) (λ _. refl)
+
+  -- ---- text, references, comments, CDATA, processing instructions
+
+  text-quiet : (content : Span) (next : Phase) → Next doc r r (piece .to) next → Turn (told r (event Kind.Text piece content 0) next)
+  text-quiet content next n = told-quiet Kind.Text content 0 next n (λ e. omega arith) (λ e. omega arith) (λ e. absurd (omega arith))
+
+  last-turn : Turn (emitLastText doc r piece)
+  unfolding emitLastText emitText
+  last-turn =
+      pick-cases Turn (eqb (size (textContent doc (r .settings) piece)) 0) _ _
+      (λ _. ended-quiet)
+      (λ _. text-quiet _ Phase.Done (to-done r))
+
+  module _ (some : Some doc r piece) where
+    text-turn : (next : Phase) → Lands doc (piece .to) next → Turn (emitText doc r piece next)
+    unfolding emitText
+    text-turn next l = text-quiet _ next (to-next some r next l)
+
+    dangling-turn : (next : Phase) → Lands doc (piece .to) next → Turn (emitDangling r piece next)
+    unfolding emitDangling
+    dangling-turn next l =
+        pick-cases Turn (r .settings .«allow_dangling_amp») _ _
+        (λ _. text-quiet piece next (to-next some r next l))
+        (λ _. refused-quiet Error.UnclosedReference _ next (to-next some r next l) (omega arith))
+
+    -- an event after which text goes on
+    plain-turn : (kind : Kind) (content : Span) (name : ℕ)
+        → (kindNumber kind ≡ kindNumber Kind.Start → ⊥) → (kindNumber kind ≡ kindNumber Kind.End → ⊥) → (kindNumber kind ≡ kindNumber Kind.Eof → ⊥)
+        → Turn (told r (event kind piece content name) Phase.InsideText)
+    plain-turn kind content name s e o = told-quiet kind content name Phase.InsideText (to-text some r) s e (λ z. absurd (o z))
+
+    ref-turn : Turn (emitRef r piece)
+    unfolding emitRef
+    ref-turn = plain-turn Kind.GeneralRef _ 0 (λ e. omega arith) (λ e. omega arith) (λ e. omega arith)
+
+    comment-event : (content : Span) → Turn (bangEvent r Kind.Comment piece content)
+    unfolding bangEvent
+    comment-event content = plain-turn Kind.Comment content 0 (λ e. omega arith) (λ e. omega arith) (λ e. omega arith)
+
+    cdata-event : (content : Span) → Turn (bangEvent r Kind.CData piece content)
+    unfolding bangEvent
+    cdata-event content = plain-turn Kind.CData content 0 (λ e. omega arith) (λ e. omega arith) (λ e. omega arith)
+
+    checked-turn : (content : Span) → Turn (checkedComment doc r piece content)
+    unfolding checkedComment
+    checked-turn content =
+        first-cases Turn (pairFound doc (content .from)) _ _
+        (λ p _. pick-cases Turn (ltb (content .to) p) _ _
+        (λ _. comment-event content)
+        (λ _. refused-quiet Error.DoubleHyphenInComment _ Phase.InsideText (to-text some r) (omega arith)))
+        (comment-event content)
+
+    comment-turn : Turn (emitComment doc r piece)
+    unfolding emitComment
+    comment-turn =
+        pick-cases Turn (begins (drop (piece .from) doc) commentOpener) _ _
+        (λ _. pick-cases Turn (r .settings .«check_comments») _ _ (λ _. checked-turn _) (λ _. comment-event _))
+        (λ _. stopped-quiet Error.UnclosedComment _ (omega arith))
+
+    cdata-turn : Turn (emitCData doc r piece)
+    unfolding emitCData
+    cdata-turn =
+        pick-cases Turn (begins (drop (piece .from) doc) cdataOpener) _ _
+        (λ _. cdata-event _)
+        (λ _. stopped-quiet Error.UnclosedCData _ (omega arith))
+
+    question-turn : Turn (emitQuestionMark doc r piece)
+    unfolding emitQuestionMark questionEvent
+    question-turn =
+        pick-cases Turn (ltb (size piece) 4) _ _
+        (λ _. stopped-quiet Error.UnclosedPI _ (omega arith))
+        (λ _. pick-cases (λ (e : Event). Turn (told r e Phase.InsideText)) (isDecl (bytes doc (inner piece 2 2))) _ _
+        (λ _. plain-turn Kind.Decl _ 3 (λ e. omega arith) (λ e. omega arith) (λ e. omega arith))
+        (λ _. plain-turn Kind.PI _ _ (λ e. omega arith) (λ e. omega arith) (λ e. omega arith)))
+
+    to-empty : piece .from + 2 < piece .to → Next doc r (withDepth r (further (r .depth))) (piece .to) Phase.InsideEmpty
+    unfolding moved withDepth
+    to-empty h = record { in-place = lt-ltb 0 (r .depth .0 + 1) (omega arith); falls = omega (arith, f, some) }
+
+    -- ---- closing tags
+
+    module _ (name : Span) where
+      stray-turn : r .depth .0 ≡ 0 → r .settings .«allow_unmatched_ends» ≡ true → Turn (endEvent r piece name)
+      unfolding endEvent told moved
+      stray-turn z on = told-turn r Kind.End name _ Phase.InsideText (like-itself r) (to-text some r) (λ e. absurd (omega arith)) (strays refl z z on)
+
+      unmatched-turn : r .depth .0 ≡ 0 → Turn (unmatched r piece name)
+      unfolding unmatched refused moved
+      unmatched-turn z =
+          pick-cases Turn (r .settings .«allow_unmatched_ends») _ _
+          (λ on. stray-turn z on)
+          (λ off. refused-turn r (Error.UnmatchedEndTag name) _ Phase.InsideText (like-itself r) (to-text some r) (λ e. omega arith) (refuses refl z z off))
+
+      module _ (z : 0 < r .depth .0) where
+        abbrev below : Reader
+        below = withDepth r (fewer (r .depth))
+
+        end-turn : (r .settings .«check_end_names» ≡ true → bytes doc name ≡ bytes doc last) → Turn (endEvent below piece name)
+        unfolding endEvent told moved withDepth
+        end-turn same =
+            told-turn below Kind.End name _ Phase.InsideText (like-deeper r _) (to-text some below) (λ e. absurd (omega arith)) (closes refl z refl same)
+
+        matched-turn : Turn (matched doc below last piece name)
+        unfolding matched refused moved withDepth
+        matched-turn =
+            pick-cases Turn (differs doc (r .settings) last name) _ _
+            (λ e. let d = disagrees doc (r .settings) last name e in
+            refused-turn below (Error.MismatchedEndTag last name) _ Phase.InsideText (like-deeper r _) (to-text some below) (λ e. omega arith)
+            (mismatches refl z refl (d .0) refl (d .1)))
+            (λ e. end-turn (agrees doc (r .settings) last name e))
+
+    close-turn : Turn (emitEnd doc r last piece)
+    unfolding emitEnd
+    close-turn =
+        pick-cases Turn (eqb (r .depth .0) 0) _ _
+        (λ e. unmatched-turn _ (eqb-true _ _ e))
+        (λ e. let n : r .depth .0 ≡ 0 → ⊥ = eqb-false _ _ e in matched-turn _ (omega arith))
+
+    -- ---- opening tags
+
+    -- where there is no room for the name
+    module _ (full : Turn (stopped r Error.NameStackFull (at (piece .from)) (span (piece .from) (piece .from)))) where
+      -- the reader has one more name, and goes on after the piece
+      module _ (content : Span) (next : Phase) (n : Next doc r (withDepth r (further (r .depth))) (piece .to) next)
+          (w : content .from + nameLen (bytes doc content) ≤ piece .to) where
+        added-turn : r .depth .0 < cap → Turn (told (withDepth r (further (r .depth))) (event Kind.Start piece content (nameLen (bytes doc content))) next)
+        unfolding told moved withDepth
+        added-turn room = told-turn _ Kind.Start content _ next (like-deeper r _) n (λ e. absurd (omega arith)) (opens refl room refl w)
+
+        opened-turn : Turn (opened r (names cap) (tag doc Kind.Start piece content) next)
+        unfolding opened tag
+        opened-turn = pick-cases Turn (ltb (r .depth .0) cap) _ _ (λ e. added-turn (ltb-true _ _ e)) (λ _. full)
+
+      start-turn : Turn (emitStart doc r (names cap) piece)
+      unfolding emitStart tag
+      start-turn =
+          pick-cases Turn (slashed doc piece) _ _
+          (λ e. pick-cases Turn (r .settings .«expand_empty_elements») _ _
+          (λ _. opened-turn _ Phase.InsideEmpty (to-empty (slashed-long doc piece e)) (name-within doc piece 1 2 (f .ordered)))
+          (λ _. plain-turn Kind.Empty _ _ (λ e. omega arith) (λ e. omega arith) (λ e. omega arith)))
+          (λ _. opened-turn _ Phase.InsideText (to-text some _) (name-within doc piece 1 1 (f .ordered)))
+
+-- ---- the call
+
+-- what holds of each case of the UTF-8 check holds of the choice by it
+utf8-cases : {A : Type 0} (M : A → Type 0) (u : Utf8) (a : A) (f : ℕ → A) → M a → ((p : ℕ) → M (f p)) → M (byUtf8 u a f)
+utf8-cases M Utf8.WellFormed a f g h = g
+utf8-cases M (Utf8.IllFormed p) a f g h = h p
+
+-- where text begins lies in the document
+begin-within : (doc : List ℕ) → begin doc ≤ length doc
+unfolding begin
+begin-within doc =
+    pick-cases (λ (n : ℕ). n ≤ length doc) (begins doc bom) _ _
+    (λ e. begins-long doc bom e)
+    (λ _. omega arith)
+
+-- a place where the call may cut its piece off
+pub record From (doc : List ℕ) (r : Reader) (from : ℕ) : Type 0 where
+  pub after : r .position .0 ≤ from
+  pub within : from ≤ length doc
+  pub near : length doc - from + 1 ≤ rank doc r
+
+lies-fits : (doc : List ℕ) (r : Reader) (from : ℕ) (piece : Span) → From doc r from → Lies doc from piece → Fits doc r piece
+lies-fits doc r from piece f l =
+    record { after = omega (arith, f, l); ordered = omega (arith, l); within = l .within }
+
+module _ (doc : List ℕ) (cap : ℕ) (last : Span) (r : Reader) where
+  abbrev Turns : Step → Type 0
+  Turns = Turned doc cap last r
+
+  full-turn : (piece : Span) → Fits doc r piece → Turns (stopped r Error.NameStackFull (at (piece .from)) (span (piece .from) (piece .from)))
+  full-turn piece f =
+      stopped-quiet doc cap last r (span (piece .from) (piece .from))
+      (record { after = f .after; ordered = omega arith; within = omega (arith, f) })
+      Error.NameStackFull _ (omega arith)
+
+  module _ (piece : Span) (f : Fits doc r piece) (near : length doc - piece .from + 1 ≤ rank doc r) where
+    some : piece .from + 1 ≤ piece .to → Some doc r piece
+    some m = record { bytes = omega arith; near = near }
+
+    emitted-turn : (shape : Shape) (next : Phase) → piece .from + fewest shape ≤ piece .to → Lands doc (piece .to) next
+        → Turns (emittedAs doc r last (names cap) shape piece next)
+    emitted-turn Shape.Text next m l = text-turn doc cap last r piece f (some m) next l
+    emitted-turn Shape.LastText next m l = last-turn doc cap last r piece f
+    emitted-turn Shape.GeneralRef next m l = ref-turn doc cap last r piece f (some m)
+    emitted-turn Shape.Dangling next m l = dangling-turn doc cap last r piece f (some m) next l
+    emitted-turn Shape.Comment next m l = comment-turn doc cap last r piece f (some m)
+    emitted-turn Shape.CData next m l = cdata-turn doc cap last r piece f (some m)
+    emitted-turn Shape.QuestionMark next m l = question-turn doc cap last r piece f (some m)
+    emitted-turn Shape.End next m l = close-turn doc cap last r piece f (some m)
+    emitted-turn Shape.Start next m l = start-turn doc cap last r piece f (some m) (full-turn piece f)
+
+  piece-turn : (from : ℕ) (p : Piece) → From doc r from → CutOff doc from p → Turns (checked doc r last (names cap) p)
+  unfolding checked emitted
+  piece-turn from p f c =
+      let fits : Fits doc r (p .span) = lies-fits doc r from _ f (c .lies) in
+      utf8-cases Turns (check (p .span .from) (bytes doc (p .span))) _ _
+      (emitted-turn (p .span) fits (rw (c .lies .starts) (f .near)) (p .shape) (p .next) (rw (c .lies .starts) (c .moves)) (c .lands))
+      (λ _. stopped-quiet doc cap last r (p .span) fits Error.Encoding _ (omega arith))
+
+  taken-turn : (from : ℕ) (c : Cut) → From doc r from → CutAt doc from c → Turns (taken doc r last (names cap) c)
+  unfolding taken
+  taken-turn from (Cut.Piece p) f c = piece-turn from p f c
+  taken-turn from (Cut.Stop x) f c = stopped-quiet doc cap last r (x .piece) (lies-fits doc r from _ f (c .lies)) (x .error) _ (c .plain)
+
+  -- ---- the phases
+
+  -- "go on as text" from a place
+  skip-from : (from : ℕ) → From doc r from → From doc r (skipped doc (r .settings) from)
+  unfolding skipped
+  skip-from from f =
+      pick-cases (From doc r) (r .settings .«trim_text_start») _ _
+      (λ _. record {
+        after = omega (arith, f);
+        within = omega (arith, f, until-within notWhite (part doc from (length doc)), part-end doc from (length doc));
+        near = omega (arith, f);
+      })
+      (λ _. f)
+
+  text-from : (from : ℕ) → From doc r from → Turns (stepText doc r last (names cap) from)
+  unfolding stepText
+  text-from from f = let g = skip-from from f in taken-turn _ _ g (next-cut doc _ (g .within))
+
+  module _ (in-doc : r .position .0 ≤ length doc) (ok : inPlace doc r ≡ true) where
+    -- where the reader stands, with a rank as in text
+    stands : (p : Phase) → r .phase ≡ p → length doc - r .position .0 + 1 ≤ rankAt doc (r .position .0) p → From doc r (r .position .0)
+    stands p e h = record { after = omega arith; within = in-doc; near = rw e h }
+
+    from-start : r .phase ≡ Phase.Init → From doc r (begin doc)
+    unfolding inPlace
+    from-start e =
+        let z : r .position .0 ≡ 0 = eqb-true _ _ (both _ _ (simp e at ok) .0) in
+        record { after = omega arith; within = begin-within doc; near = rw e (omega arith) }
+
+    expanded-turn : r .phase ≡ Phase.InsideEmpty → Turns (closeExpandedEmpty r last)
+    unfolding closeExpandedEmpty endEvent told moved withDepth inPlace
+    expanded-turn e =
+        let z : 0 < r .depth .0 = ltb-true _ _ (simp e at ok) in
+        told-turn doc cap last r (span (r .position .0) (r .position .0)) (record { after = omega arith; ordered = omega arith; within = in-doc }) _ Kind.End last _
+        Phase.InsideText (like-deeper r _) (record { in-place = refl; falls = rw e (omega arith) }) (λ e. absurd (omega arith)) (closes refl z refl (λ _. refl))
+
+    phase-turn : (p : Phase) → r .phase ≡ p → Turns (stepIn doc r last (names cap) p)
+    phase-turn Phase.Init e = text-from (begin doc) (from-start e)
+    phase-turn Phase.InsideText e = text-from (r .position .0) (stands Phase.InsideText e (omega arith))
+    phase-turn Phase.InsideMarkup e = taken-turn _ _ (stands Phase.InsideMarkup e (omega arith)) (markup-cut doc (r .position .0) in-doc)
+    phase-turn Phase.InsideRef e = taken-turn _ _ (stands Phase.InsideRef e (omega arith)) (ref-cut doc (r .position .0) in-doc (ref-at doc r ok e))
+    phase-turn Phase.InsideEmpty e = expanded-turn e
+    phase-turn Phase.Done e = ended-quiet doc cap last r _ (record { after = omega arith; ordered = omega arith; within = in-doc })
+
+-- a call on a sound state is a turn
+pub step-turn : (doc stack : List ℕ) (r : Reader) → sound doc stack r ≡ true
+    → Turned doc (capacity (length stack)) (latest stack (r .depth .0)) r (step doc stack r)
+unfolding step stepPhase
+step-turn doc stack r e = let s = sound-true doc stack r e in rw e (phase-turn doc _ _ r (s .in-doc) (s .in-place) (r .phase) refl)
