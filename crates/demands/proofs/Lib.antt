@@ -1,2 +1,6 @@
+pub mod Clauses
+pub mod Demand1
+pub mod Demand3
+pub mod Held
 pub mod Pinned
 pub mod Worked

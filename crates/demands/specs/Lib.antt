@@ -1,4 +1,4 @@
-pub mod Run
 pub mod Answers
+pub mod Run
 pub mod Open
 pub mod Table

@@ -6,7 +6,7 @@ use lib.Dec.{eqb}
 use Rattle.ground.specs.Choose.{pick}
 use Rattle.state.specs.declared.place.Span.{Span}
 use Rattle.state.specs.declared.answer.Answer.{Answer}
-use Rattle.reader.specs.Names.{entry, nameOf}
+use Rattle.reader.specs.Names.{entry, latest, nameOf}
 use Rattle.demands.specs.Run.{World}
 use Rattle.demands.specs.Answers.{isStart, isEnd, isMismatch}
 
@@ -18,6 +18,10 @@ entries stack (suc d) = entry stack d ∷ entries stack d
 -- the open names, the latest first, read from the stack's slots
 abbrev pub opened : World → List Span
 opened w = entries (w .stack) (w .reader .depth .0)
+
+-- the latest of them; 0..0 where none is open
+abbrev pub newest : World → Span
+newest w = latest (w .stack) (w .reader .depth .0)
 
 -- names without the latest
 abbrev pub rest : List Span → List Span

@@ -44,7 +44,7 @@ use Rattle.emit.specs.Start.{slashed, tag, opened, emitStart}
 use Rattle.reader.specs.declared.piece.Shape.{Shape}
 use Rattle.reader.specs.declared.piece.Piece.{Piece}
 use Rattle.reader.specs.declared.piece.Cut.{Cut}
-use Rattle.reader.specs.Names.{latest, nameOf}
+use Rattle.reader.specs.Names.{latest, nameOf, bytes}
 use Rattle.reader.specs.Sound.{inPlaceIn, inPlace, sound}
 use Rattle.reader.specs.Step.{emittedAs, emitted, checked, taken, skipped, stepText, bom, begin, stepIn, stepPhase, step}
 use Rattle.reader.proofs.Cuts.{fewest, Lands, Plain, Lies, CutOff, CutAt, next-cut, markup-cut, ref-cut}
@@ -67,10 +67,6 @@ rank doc r = rankAt doc (r .position .0) (r .phase)
 -- an answer that says nothing of names
 abbrev pub Quiet : Answer → Type 0
 Quiet a = (valuesOf a .kind ≡ kindNumber Kind.Start → ⊥) × (valuesOf a .kind ≡ kindNumber Kind.End → ⊥) × Plain (valuesOf a .number)
-
--- the bytes of a span
-abbrev pub bytes : List ℕ → Span → List ℕ
-bytes doc s = part doc (s .from) (s .to)
 
 -- what a call does to the names, of which there is room for `cap`, and of which `last` is the latest
 pub data Named (doc : List ℕ) (cap : ℕ) (last : Span) (r : Reader) (s : Step) : Type 0 where

@@ -27,7 +27,7 @@ module _ (doc stack : List ℕ) (r : Reader) (sd : Sound doc stack r) (s : Step)
   named-room (strays k z d on) = record { room = λ e. absurd (omega arith) }
   named-room (refuses n z d off) = record { room = λ e. let z = no-kind (s .answer) (omega arith) in absurd (omega arith) }
 
-bad-step : (doc stack : List ℕ) (r : Reader) → sound doc stack r ≡ false → step doc stack r ≡ badState r
+pub bad-step : (doc stack : List ℕ) (r : Reader) → sound doc stack r ≡ false → step doc stack r ≡ badState r
 unfolding step
 bad-step doc stack r e = rw e
 

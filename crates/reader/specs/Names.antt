@@ -5,6 +5,7 @@ use mathlib.Core.List.{List}
 use lib.ListN.{getD, set}
 use lib.Dec.{eqb}
 use Rattle.ground.specs.Choose.{pick}
+use Rattle.ground.specs.Part.{part}
 use Rattle.state.specs.declared.place.Span.{Span}
 use Rattle.state.specs.declared.answer.Kind.{Kind}
 use Rattle.state.specs.declared.answer.Answer.{Answer}
@@ -27,6 +28,10 @@ pushed stack d name = set (set stack (d * slots) (name .from)) (d * slots + 1) (
 -- the name of a tag: the first bytes of its content
 abbrev pub nameOf : Answer → Span
 nameOf a = span (valuesOf a .content .from) (valuesOf a .content .from + valuesOf a .name)
+
+-- the bytes of a span of the document
+abbrev pub bytes : List ℕ → Span → List ℕ
+bytes doc s = part doc (s .from) (s .to)
 
 -- "Closing writes no stack slot; opening writes the one pair at the old depth; refusals write none": a Start writes its name, nothing else writes
 unfoldable pub written : List ℕ → ℕ → Answer → List ℕ

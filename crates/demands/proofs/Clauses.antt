@@ -1,0 +1,124 @@
+-- What a call of a run does to the open names, for each kind of answer and any settings. Assumes nothing.
+use Prim.Native.Nat.{ℕ, _+_}
+use mathlib.Core.Path.{_≡_, refl, sym, ap, _∙_}
+use mathlib.Core.List.{List, [], _∷_}
+use mathlib.Core.Bool.{Bool, true, false}
+use mathlib.Core.Logic.{_⊎_, inl, inr}
+use native.Mathlib.Omega.{arith}
+use lib.ListN.{length}
+use lib.Dec.{eqb}
+use borrow.Author.Tests.{eq-eqb, ne-eqb}
+use Rattle.ground.specs.Choose.{pick}
+use Rattle.state.specs.declared.place.Span.{Span}
+use Rattle.state.specs.declared.answer.Kind.{Kind}
+use Rattle.state.specs.Values.{kindNumber, valuesOf}
+use Rattle.state.proofs.Numbers.{no-number, no-kind}
+use Rattle.reader.specs.Names.{nameOf, bytes}
+use Rattle.demands.specs.Run.{World, said, call}
+use Rattle.demands.specs.Answers.{isStart, isEnd, isMismatch}
+use Rattle.demands.specs.Open.{opened, newest, leftOpen}
+use Rattle.demands.proofs.Held.{Does, keeping, adding, closing, mismatching, straying, refusing}
+
+module _ (doc : List ℕ) (w : World) where
+  abbrev kind : ℕ
+  kind = valuesOf (said doc w) .kind
+
+  abbrev number : ℕ
+  number = valuesOf (said doc w) .number
+
+  abbrev after : World
+  after = call doc w
+
+  pub starts : Does doc w → kind ≡ kindNumber Kind.Start → number ≡ 0 → opened after ≡ nameOf (said doc w) ∷ opened w
+  starts (keeping q e) k n = absurd (q .0 k)
+  starts (adding l e within) k n = e
+  starts (closing l e same) k n = absurd (omega arith)
+  starts (mismatching m e on x y) k n = absurd (omega arith)
+  starts (straying l e f on) k n = absurd (omega arith)
+  starts (refusing m e f off) k n = absurd (omega arith)
+
+  pub others : Does doc w → (kind ≡ kindNumber Kind.Start → ⊥) → (opened after ≡ opened w) ⊎ (opened w ≡ newest w ∷ opened after)
+  others (keeping q e) k = inl e
+  others (adding l e within) k = absurd (k l)
+  others (closing l e same) k = inr e
+  others (mismatching m e on x y) k = inr e
+  others (straying l e f on) k = inl (f ∙ sym e)
+  others (refusing m e f off) k = inl (f ∙ sym e)
+
+  -- what is so of an End: it takes the latest name away, or there is none and unmatched ends are let through
+  pub record Closing : Type 0 where
+    pub takes : opened w ≡ newest w ∷ opened after
+    pub carries : w .reader .settings .«check_end_names» ≡ true → bytes doc (valuesOf (said doc w) .content) ≡ bytes doc (newest w)
+
+  pub record Straying : Type 0 where
+    pub none : opened w ≡ []
+    pub leaves : opened after ≡ []
+    pub allowed : w .reader .settings .«allow_unmatched_ends» ≡ true
+
+  pub ends : Does doc w → kind ≡ kindNumber Kind.End → number ≡ 0 → Closing ⊎ Straying
+  ends (keeping q e) k n = absurd (q .1 k)
+  ends (adding l e within) k n = absurd (omega arith)
+  ends (closing l e same) k n = inl (record { takes = e; carries = same })
+  ends (mismatching m e on x y) k n = absurd (omega arith)
+  ends (straying l e f on) k n = inr (record { none = e; leaves = f; allowed = on })
+  ends (refusing m e f off) k n = absurd (omega arith)
+
+  pub record Mismatching : Type 0 where
+    pub takes : opened w ≡ newest w ∷ opened after
+    pub checks : w .reader .settings .«check_end_names» ≡ true
+    pub expects : valuesOf (said doc w) .expected ≡ newest w
+    pub differs : bytes doc (valuesOf (said doc w) .found) ≡ bytes doc (newest w) → ⊥
+
+  pub mismatches : Does doc w → number ≡ 10 → kind ≡ 0 → Mismatching
+  mismatches (keeping q e) n k = absurd (q .2 .0 n)
+  mismatches (adding l e within) n k = absurd (omega arith)
+  mismatches (closing l e same) n k = absurd (omega arith)
+  mismatches (mismatching m e on x y) n k = record { takes = e; checks = on; expects = x; differs = y }
+  mismatches (straying l e f on) n k = absurd (omega arith)
+  mismatches (refusing m e f off) n k = absurd (omega arith)
+
+  pub unmatched : Does doc w → number ≡ 11 → kind ≡ 0 → (opened w ≡ []) × (w .reader .settings .«allow_unmatched_ends» ≡ false)
+  unmatched (keeping q e) n k = absurd (q .2 .1 n)
+  unmatched (adding l e within) n k = absurd (omega arith)
+  unmatched (closing l e same) n k = absurd (omega arith)
+  unmatched (mismatching m e on x y) n k = absurd (omega arith)
+  unmatched (straying l e f on) n k = absurd (omega arith)
+  unmatched (refusing m e f off) n k = (e, off)
+
+  pub rests : Does doc w → (kind ≡ kindNumber Kind.Start → ⊥) → (kind ≡ kindNumber Kind.End → ⊥) → (number ≡ 10 → ⊥) → opened after ≡ opened w
+  rests (keeping q e) s f m = e
+  rests (adding l e within) s f m = absurd (s l)
+  rests (closing l e same) s f m = absurd (f l)
+  rests (mismatching n e on x y) s f m = absurd (m n)
+  rests (straying l e g on) s f m = absurd (f l)
+  rests (refusing n e g off) s f m = g ∙ sym e
+
+  -- ---- counting
+
+  -- a 1 for each answer of its kind, and for an End with nothing open
+  abbrev stray : ℕ
+  stray = pick (isEnd (said doc w)) (pick (eqb (length (leftOpen (w .answers))) 0) 1 0) 0
+
+  module _ (names : opened w ≡ leftOpen (w .answers)) where
+    pub tally : Does doc w
+        → pick (isStart (said doc w)) 1 0 + stray + length (opened w) ≡ pick (isEnd (said doc w)) 1 0 + pick (isMismatch (said doc w)) 1 0 + length (opened after)
+    tally (keeping q e) = rw (ne-eqb kind 1 (q .0), ne-eqb kind 2 (q .1), ne-eqb number 10 (q .2 .0), e)
+    tally (adding l e within) =
+        let n = no-number (said doc w) (omega arith) in
+        rw (eq-eqb kind 1 l, ne-eqb kind 2 (λ x. omega arith), ne-eqb number 10 (λ x. omega arith), e) (omega arith)
+    tally (closing l e same) =
+        let n = no-number (said doc w) (omega arith) in
+        let o : length (leftOpen (w .answers)) ≡ 0 → ⊥ = λ z. omega (arith, ap length (sym names ∙ e)) in
+        rw (ne-eqb kind 1 (λ x. omega arith), eq-eqb kind 2 l, ne-eqb number 10 (λ x. omega arith), ne-eqb (length (leftOpen (w .answers))) 0 o)
+        (omega (arith, ap length e))
+    tally (mismatching m e on x y) =
+        let k = no-kind (said doc w) (omega arith) in
+        rw (ne-eqb kind 1 (λ x. omega arith), ne-eqb kind 2 (λ x. omega arith), eq-eqb number 10 m) (omega (arith, ap length e))
+    tally (straying l e f on) =
+        let n = no-number (said doc w) (omega arith) in
+        let o : length (leftOpen (w .answers)) ≡ 0 = ap length (sym names ∙ e) in
+        rw (ne-eqb kind 1 (λ x. omega arith), eq-eqb kind 2 l, ne-eqb number 10 (λ x. omega arith), eq-eqb (length (leftOpen (w .answers))) 0 o)
+        (omega (arith, ap length e, ap length f))
+    tally (refusing m e f off) =
+        let k = no-kind (said doc w) (omega arith) in
+        rw (ne-eqb kind 1 (λ x. omega arith), ne-eqb kind 2 (λ x. omega arith), ne-eqb number 10 (λ x. omega arith)) (omega (arith, ap length e, ap length f))

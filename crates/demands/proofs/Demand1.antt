@@ -1,0 +1,140 @@
+-- DEMAND 1: every call is answered, a run never meets a bad state, and it comes to its end. Any document within the limit, any settings, any lent stack,
+-- any number of calls from a fresh reader. Assumes nothing.
+use Prim.Native.Nat.{ℕ, zero, suc, _+_, _-_, _≤_, _<_}
+use mathlib.Core.Path.{_≡_, refl, sym, ap, _∙_}
+use mathlib.Core.List.{List, _∷_}
+use mathlib.Core.Bool.{Bool, true, false}
+use mathlib.Core.Logic.{_↔_}
+use native.Mathlib.Omega.{arith}
+use native.Mathlib.Nat.{zero-add, suc-add}
+use lib.ListN.{length}
+use borrow.Author.Tests.{ne-eqb, eqb-true}
+use Rattle.ground.proofs.Choices.{clash}
+use Rattle.state.specs.declared.config.Config.{Config}
+use Rattle.state.specs.declared.answer.Kind.{Kind}
+use Rattle.state.specs.declared.answer.Answer.{Answer}
+use Rattle.state.specs.declared.run.Phase.{Phase}
+use Rattle.state.specs.declared.run.Reader.{Reader}
+use Rattle.state.specs.declared.run.Step.{Step}
+use Rattle.state.specs.Limits.{longest, capacity}
+use Rattle.state.specs.Place.{span}
+use Rattle.state.specs.Values.{kindNumber, valuesOf}
+use Rattle.state.specs.Make.{fresh, moved, told, ended, badState}
+use Rattle.reader.specs.Names.{written}
+use Rattle.reader.specs.Sound.{sound}
+use Rattle.reader.specs.Step.{stepPhase, step}
+use Rattle.reader.proofs.Outside.{Turned, rankAt, rank, step-turn}
+use Rattle.reader.proofs.Rooms.{bad-step}
+use Rattle.demands.specs.Run.{World, said, call, run, AtRest}
+use Rattle.demands.specs.Answers.{isEof, isBadState}
+use Rattle.demands.specs.Open.{newest}
+use Rattle.demands.proofs.Held.{Held, held-sound, held-turn, run-held}
+
+-- ---- any state
+
+bad-answer : (r : Reader) → isBadState (badState r .answer) ≡ true
+unfolding badState
+bad-answer r = refl
+
+-- THEOREM: "17 exactly when" the state is not sound
+pub bad-state-exactly-when-unsound : (doc stack : List ℕ) (r : Reader) → (isBadState (step doc stack r .answer) ≡ true) ↔ (sound doc stack r ≡ false)
+bad-state-exactly-when-unsound doc stack r = (λ b. by (sound doc stack r) refl b, λ e. rw (bad-step doc stack r e) (bad-answer r))
+  where
+    by : (t : Bool) → sound doc stack r ≡ t → isBadState (step doc stack r .answer) ≡ true → t ≡ false
+    by true e b = absurd (step-turn doc stack r e .no-bad (eqb-true (valuesOf (step doc stack r .answer) .number) 17 b))
+    by false e b = refl
+
+-- ---- a run
+
+module _ (doc stack : List ℕ) (c : Config) (short : length doc ≤ longest) where
+  abbrev after : ℕ → World
+  after n = run doc stack c n
+
+  turn : (n : ℕ) → Turned doc (capacity (length (after n .stack))) (newest (after n)) (after n .reader) (step doc (after n .stack) (after n .reader))
+  turn n = held-turn doc c short (after n) (run-held doc c short stack n)
+
+  -- THEOREM: every state of a run is sound
+  pub every-state-is-sound : (n : ℕ) → sound doc (after n .stack) (after n .reader) ≡ true
+  every-state-is-sound n = held-sound doc c short (after n) (run-held doc c short stack n)
+
+  -- THEOREM: no call of a run answers 17
+  pub no-bad-state : (n : ℕ) → isBadState (said doc (after n)) ≡ false
+  no-bad-state n = ne-eqb (valuesOf (said doc (after n)) .number) 17 (turn n .no-bad)
+
+  next-position : (n : ℕ) → after n .reader .position .0 ≤ after (suc n) .reader .position .0
+  unfolding run call
+  next-position n = let t = turn n in omega (arith, t .after, t .ordered, t .left)
+
+  -- THEOREM: the position never falls, by however many calls
+  pub position-never-falls : (n k : ℕ) → after n .reader .position .0 ≤ after (k + n) .reader .position .0
+  position-never-falls n zero = rw (zero-add n) (omega arith)
+  position-never-falls n (suc k) = rw (suc-add k n) (omega (arith, position-never-falls n k, next-position (k + n)))
+
+  -- ---- the end
+
+  rank-falls : (n : ℕ) → rank doc (after n .reader) ≤ length doc + 1 - n
+  unfolding run call fresh
+  rank-falls zero = omega arith
+  rank-falls (suc n) = omega (arith, turn n .falls, rank-falls n)
+
+  rank-done : (position : ℕ) (p : Phase) → rankAt doc position p ≤ 0 → p ≡ Phase.Done
+  rank-done position Phase.Init h = absurd (omega arith)
+  rank-done position Phase.InsideText h = absurd (omega arith)
+  rank-done position Phase.InsideMarkup h = absurd (omega arith)
+  rank-done position Phase.InsideRef h = absurd (omega arith)
+  rank-done position Phase.InsideEmpty h = absurd (omega arith)
+  rank-done position Phase.Done h = refl
+
+  -- THEOREM: after length + 1 calls the reader is done
+  pub done-after-length-and-one : after (length doc + 1) .reader .phase ≡ Phase.Done
+  done-after-length-and-one =
+      rank-done (after (length doc + 1) .reader .position .0) (after (length doc + 1) .reader .phase) (omega (arith, rank-falls (length doc + 1)))
+
+  -- a reader that is done stays as it is
+  still : (r : Reader) → r .phase ≡ Phase.Done → moved r Phase.Done (r .position .0) ≡ r
+  unfolding moved
+  still r e =
+      ap (λ (p : Phase). record { phase = p; position = r .position; depth = r .depth; length = r .length; settings = r .settings }) (sym e)
+
+  module _ (n : ℕ) (done : after n .reader .phase ≡ Phase.Done) where
+    done-step : step doc (after n .stack) (after n .reader) ≡ ended (after n .reader) (span (after n .reader .position .0) (after n .reader .position .0))
+    unfolding step stepPhase
+    done-step = rw (every-state-is-sound n, done)
+
+    done-says : isEof (said doc (after n)) ≡ true
+    unfolding ended told
+    done-says = ap (λ (s : Step). isEof (s .answer)) done-step
+
+    done-reader : after (suc n) .reader ≡ after n .reader
+    unfolding run call ended told
+    done-reader = ap (λ (s : Step). s .reader) done-step ∙ still (after n .reader) done
+
+    done-stack : after (suc n) .stack ≡ after n .stack
+    unfolding run call written ended told
+    done-stack = ap (λ (s : Step). written (after n .stack) (after n .reader .depth .0) (s .answer)) done-step
+
+  rests : (n : ℕ) → after n .reader .phase ≡ Phase.Done → (k : ℕ) → AtRest doc (after n) (after (k + n))
+  rests n done zero = rw (zero-add n) (record { says = done-says n done; reader = refl; stack = refl })
+  rests n done (suc k) = rw (suc-add k n) (on (rests n done k))
+    where
+      on : AtRest doc (after n) (after (k + n)) → AtRest doc (after n) (after (suc (k + n)))
+      on x =
+          let d : after (k + n) .reader .phase ≡ Phase.Done = ap (λ (r : Reader). r .phase) (x .reader) ∙ done in
+          let e : after (suc (k + n)) .reader ≡ after n .reader = done-reader (k + n) d ∙ x .reader in
+          record {
+            says = done-says (suc (k + n)) (ap (λ (r : Reader). r .phase) e ∙ done);
+            reader = e;
+            stack = done-stack (k + n) d ∙ x .stack;
+          }
+
+  -- THEOREM: call number length + 2, the one after length + 1 calls, answers Eof if none before it did
+  pub eof-by-length-and-two : isEof (said doc (after (length doc + 1))) ≡ true
+  eof-by-length-and-two = done-says (length doc + 1) done-after-length-and-one
+
+  eof-done : (n : ℕ) → isEof (said doc (after n)) ≡ true → after (suc n) .reader .phase ≡ Phase.Done
+  unfolding run call
+  eof-done n e = turn n .over (eqb-true (valuesOf (said doc (after n)) .kind) (kindNumber Kind.Eof) e)
+
+  -- THEOREM: from the first Eof on every call answers Eof and changes nothing
+  pub eof-stays : (n : ℕ) → isEof (said doc (after n)) ≡ true → (k : ℕ) → AtRest doc (after (suc n)) (after (k + suc n))
+  eof-stays n e k = rests (suc n) (eof-done n e) k

@@ -1,0 +1,148 @@
+-- DEMAND 3: no opening is lost and none is closed twice. Any number of calls from a fresh reader, over any document within the limit, any lent stack and
+-- unchanged bytes, stack and settings. A clause that speaks of end checks or of unmatched ends says so; the others hold with any settings.
+-- Assumes nothing.
+use Prim.Native.Nat.{ℕ, zero, suc, _+_, _≤_, _<_}
+use mathlib.Core.Path.{_≡_, refl, sym, ap, _∙_}
+use mathlib.Core.List.{List, [], _∷_}
+use mathlib.Core.Bool.{Bool, true, false}
+use mathlib.Core.Logic.{_⊎_, inl, inr}
+use native.Mathlib.Omega.{arith}
+use lib.ListN.{length}
+use borrow.Author.Tests.{ne-eqb, eqb-true, eqb-false}
+use Rattle.ground.proofs.Choices.{clash, pick-cases}
+use Rattle.state.specs.declared.place.Span.{Span}
+use Rattle.state.specs.declared.config.Config.{Config}
+use Rattle.state.specs.declared.answer.Kind.{Kind}
+use Rattle.state.specs.declared.answer.Answer.{Answer}
+use Rattle.state.specs.Limits.{longest}
+use Rattle.state.specs.Values.{kindNumber, valuesOf}
+use Rattle.state.specs.Make.{fresh}
+use Rattle.state.proofs.Numbers.{no-number, no-kind}
+use Rattle.reader.specs.Names.{nameOf, bytes}
+use Rattle.demands.specs.Run.{World, said, call, run}
+use Rattle.demands.specs.Answers.{isStart, isEnd, isMismatch, isUnmatched, count}
+use Rattle.demands.specs.Open.{entries, opened, newest, leftOpen, strays}
+use Rattle.demands.proofs.Held.{Does, Held, held-does, run-held, entries-length}
+use Rattle.demands.proofs.Clauses.{Closing, Straying, Mismatching, starts, others, ends, mismatches, unmatched, rests, tally}
+
+module _ (doc stack : List ℕ) (c : Config) (short : length doc ≤ longest) (n : ℕ) where
+  -- after n calls, after one more, and what that one answers
+  abbrev before : World
+  before = run doc stack c n
+
+  abbrev after : World
+  after = run doc stack c (suc n)
+
+  abbrev answer : Answer
+  answer = said doc before
+
+  held : Held doc c before
+  held = run-held doc c short stack n
+
+  does : Does doc before
+  does = held-does doc c short before held
+
+  setting : {A : Type 0} (flag : Config → A) (x : A) → flag c ≡ x → flag (before .reader .settings) ≡ x
+  setting flag x e = ap flag (held .settings) ∙ e
+
+  -- THEOREM: "each Start adds its own name"
+  pub start-adds-its-name : isStart answer ≡ true → opened after ≡ nameOf answer ∷ opened before
+  unfolding run
+  start-adds-its-name e =
+      let k = eqb-true (valuesOf answer .kind) (kindNumber Kind.Start) e in
+      starts doc before does k (no-number answer (omega arith))
+
+  -- THEOREM: "and nothing else adds one": what is open after was open before
+  pub nothing-else-adds : isStart answer ≡ false → (opened after ≡ opened before) ⊎ (opened before ≡ newest before ∷ opened after)
+  unfolding run
+  nothing-else-adds e = others doc before does (eqb-false (valuesOf answer .kind) (kindNumber Kind.Start) e)
+
+  ending : isEnd answer ≡ true → Closing doc before ⊎ Straying doc before
+  ending e = let k = eqb-true (valuesOf answer .kind) (kindNumber Kind.End) e in ends doc before does k (no-number answer (omega arith))
+
+  module _ (unmatched-refused : c .«allow_unmatched_ends» ≡ false) where
+    closing : isEnd answer ≡ true → Closing doc before
+    closing e = by (ending e)
+      where
+        by : Closing doc before ⊎ Straying doc before → Closing doc before
+        by (inl x) = x
+        by (inr x) = clash _ (x .allowed) (setting (λ (s : Config). s .«allow_unmatched_ends») false unmatched-refused)
+
+    -- THEOREM: "each End takes away the latest name still open"
+    pub end-takes-the-latest : isEnd answer ≡ true → opened before ≡ newest before ∷ opened after
+    unfolding run
+    end-takes-the-latest e = closing e .takes
+
+    -- THEOREM: "and carries its bytes"
+    pub end-carries-its-bytes : c .«check_end_names» ≡ true → isEnd answer ≡ true → bytes doc (valuesOf answer .content) ≡ bytes doc (newest before)
+    end-carries-its-bytes on e = closing e .carries (setting (λ (s : Config). s .«check_end_names») true on)
+
+  mismatching : isMismatch answer ≡ true → Mismatching doc before
+  mismatching e = let m = eqb-true (valuesOf answer .number) 10 e in mismatches doc before does m (no-kind answer (omega arith))
+
+  -- THEOREM: "a mismatch takes it away and gives no End"
+  pub mismatch-takes-the-latest : isMismatch answer ≡ true → (opened before ≡ newest before ∷ opened after) × (isEnd answer ≡ false)
+  unfolding run
+  mismatch-takes-the-latest e =
+      let m = eqb-true (valuesOf answer .number) 10 e in
+      let k = no-kind answer (omega arith) in
+      (mismatching e .takes, ne-eqb (valuesOf answer .kind) (kindNumber Kind.End) (λ x. omega arith))
+
+  -- THEOREM: it tells the two names, whose bytes differ
+  pub mismatch-tells-both : isMismatch answer ≡ true
+      → (valuesOf answer .expected ≡ newest before) × (bytes doc (valuesOf answer .found) ≡ bytes doc (newest before) → ⊥)
+  mismatch-tells-both e = (mismatching e .expects, mismatching e .differs)
+
+  -- THEOREM: "an unmatched end is refused only with nothing open"
+  pub unmatched-with-nothing-open : isUnmatched answer ≡ true → opened before ≡ []
+  unmatched-with-nothing-open e =
+      let m = eqb-true (valuesOf answer .number) 11 e in unmatched doc before does m (no-kind answer (omega arith)) .0
+
+  -- THEOREM: "no other answer takes a name away"
+  pub no-other-takes-a-name : isStart answer ≡ false → isEnd answer ≡ false → isMismatch answer ≡ false → opened after ≡ opened before
+  unfolding run
+  no-other-takes-a-name s e m =
+      rests doc before does
+      (eqb-false (valuesOf answer .kind) (kindNumber Kind.Start) s)
+      (eqb-false (valuesOf answer .kind) (kindNumber Kind.End) e)
+      (eqb-false (valuesOf answer .number) 10 m)
+
+  -- THEOREM: "the open names in order are those that the answers given so far say"
+  pub open-names-are-those-told : opened before ≡ leftOpen (before .answers)
+  open-names-are-those-told = held .names
+
+  -- THEOREM: there are as many as the reader's depth
+  pub as-many-as-the-depth : length (opened before) ≡ before .reader .depth .0
+  as-many-as-the-depth = entries-length (before .stack) (before .reader .depth .0)
+
+module _ (doc stack : List ℕ) (c : Config) (short : length doc ≤ longest) where
+  abbrev answers : ℕ → List Answer
+  answers n = run doc stack c n .answers
+
+  -- with any settings: as many Starts, and Ends with nothing open, as Ends, mismatches and open names
+  pub all-counts : (n : ℕ)
+      → count isStart (answers n) + strays (answers n) ≡ count isEnd (answers n) + count isMismatch (answers n) + length (opened (run doc stack c n))
+  unfolding run call count strays fresh entries
+  all-counts zero = refl
+  all-counts (suc n) =
+      let w = run doc stack c n in
+      omega (arith, all-counts n, tally doc w (run-held doc c short stack n .names) (does doc stack c short n))
+
+  module _ (unmatched-refused : c .«allow_unmatched_ends» ≡ false) where
+    -- an End with nothing open does not come
+    pub no-strays : (n : ℕ) → strays (answers n) ≡ 0
+    unfolding run call strays
+    no-strays zero = refl
+    no-strays (suc n) =
+        let w = run doc stack c n in
+        rw (no-strays n)
+        (pick-cases (λ (k : ℕ). k + 0 ≡ 0) (isEnd (said doc w)) _ _
+        (λ e. let some = closing doc stack c short n unmatched-refused e .takes in
+        let o : length (leftOpen (w .answers)) ≡ 0 → ⊥ = λ z. omega (arith, ap length (sym (run-held doc c short stack n .names) ∙ some)) in
+        rw (ne-eqb (length (leftOpen (w .answers))) 0 o) refl)
+        (λ _. refl))
+
+    -- THEOREM: "Starts = Ends + mismatches + names open"
+    pub starts-are-ends-mismatches-and-open : (n : ℕ)
+        → count isStart (answers n) ≡ count isEnd (answers n) + count isMismatch (answers n) + length (opened (run doc stack c n))
+    starts-are-ends-mismatches-and-open n = omega (arith, all-counts n, no-strays n)
