@@ -42,7 +42,7 @@ module _ (doc stack : List ℕ) (c : Config) (short : length doc ≤ longest) (n
   does : Does doc before
   does = held-does doc c short before held
 
-  setting : {A : Type 0} (flag : Config → A) (x : A) → flag c ≡ x → flag (before .reader .settings) ≡ x
+  pub setting : {A : Type 0} (flag : Config → A) (x : A) → flag c ≡ x → flag (before .reader .settings) ≡ x
   setting flag x e = ap flag (held .settings) ∙ e
 
   -- THEOREM: "each Start adds its own name"
@@ -57,7 +57,7 @@ module _ (doc stack : List ℕ) (c : Config) (short : length doc ≤ longest) (n
   unfolding run
   nothing-else-adds e = others doc before does (eqb-false (valuesOf answer .kind) (kindNumber Kind.Start) e)
 
-  ending : isEnd answer ≡ true → Closing doc before ⊎ Straying doc before
+  pub ending : isEnd answer ≡ true → Closing doc before ⊎ Straying doc before
   ending e = let k = eqb-true (valuesOf answer .kind) (kindNumber Kind.End) e in ends doc before does k (no-number answer (omega arith))
 
   module _ (unmatched-refused : c .«allow_unmatched_ends» ≡ false) where
@@ -77,7 +77,7 @@ module _ (doc stack : List ℕ) (c : Config) (short : length doc ≤ longest) (n
     pub end-carries-its-bytes : c .«check_end_names» ≡ true → isEnd answer ≡ true → bytes doc (valuesOf answer .content) ≡ bytes doc (newest before)
     end-carries-its-bytes on e = closing e .carries (setting (λ (s : Config). s .«check_end_names») true on)
 
-  mismatching : isMismatch answer ≡ true → Mismatching doc before
+  pub mismatching : isMismatch answer ≡ true → Mismatching doc before
   mismatching e = let m = eqb-true (valuesOf answer .number) 10 e in mismatches doc before does m (no-kind answer (omega arith))
 
   -- THEOREM: "a mismatch takes it away and gives no End"
@@ -93,10 +93,12 @@ module _ (doc stack : List ℕ) (c : Config) (short : length doc ≤ longest) (n
       → (valuesOf answer .expected ≡ newest before) × (bytes doc (valuesOf answer .found) ≡ bytes doc (newest before) → ⊥)
   mismatch-tells-both e = (mismatching e .expects, mismatching e .differs)
 
+  pub refusing-unmatched : isUnmatched answer ≡ true → (opened before ≡ []) × (before .reader .settings .«allow_unmatched_ends» ≡ false)
+  refusing-unmatched e = let m = eqb-true (valuesOf answer .number) 11 e in unmatched doc before does m (no-kind answer (omega arith))
+
   -- THEOREM: "an unmatched end is refused only with nothing open"
   pub unmatched-with-nothing-open : isUnmatched answer ≡ true → opened before ≡ []
-  unmatched-with-nothing-open e =
-      let m = eqb-true (valuesOf answer .number) 11 e in unmatched doc before does m (no-kind answer (omega arith)) .0
+  unmatched-with-nothing-open e = refusing-unmatched e .0
 
   -- THEOREM: "no other answer takes a name away"
   pub no-other-takes-a-name : isStart answer ≡ false → isEnd answer ≡ false → isMismatch answer ≡ false → opened after ≡ opened before

@@ -2,5 +2,6 @@ pub mod Clauses
 pub mod Demand1
 pub mod Demand3
 pub mod Held
+pub mod OtherSettings
 pub mod Pinned
 pub mod Worked
