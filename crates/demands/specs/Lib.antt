@@ -1,4 +1,5 @@
 pub mod Answers
 pub mod Run
 pub mod Open
+pub mod Openings
 pub mod Table

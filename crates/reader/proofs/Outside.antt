@@ -107,6 +107,10 @@ pub record Some (doc : List ℕ) (r : Reader) (piece : Span) : Type 0 where
   pub bytes : piece .from < piece .to
   pub near : length doc - piece .from + 1 ≤ rank doc r
 
+-- a kind of event that says nothing of names, and is not Eof
+abbrev Silent : Kind → Type 0
+Silent k = (kindNumber k ≡ kindNumber Kind.Start → ⊥) × (kindNumber k ≡ kindNumber Kind.End → ⊥) × (kindNumber k ≡ kindNumber Kind.Eof → ⊥)
+
 -- another depth at most
 pub record Like (r b : Reader) : Type 0 where
   pub size : b .length ≡ r .length
@@ -119,10 +123,6 @@ pub record Next (doc : List ℕ) (r b : Reader) (to : ℕ) (next : Phase) : Type
 
 like-itself : (r : Reader) → Like r r
 like-itself r = record { size = refl; settings = refl }
-
-like-deeper : (r : Reader) (d : Depth) → Like r (withDepth r d)
-unfolding withDepth
-like-deeper r d = record { size = refl; settings = refl }
 
 -- ---- names
 
@@ -230,88 +230,80 @@ module _ (doc : List ℕ) (cap : ℕ) (last : Span) (r : Reader) (piece : Span) 
 
   -- ---- an answer that says nothing of names
 
-  told-quiet : (kind : Kind) (content : Span) (name : ℕ) (next : Phase) → Next doc r r (piece .to) next
-      → (kindNumber kind ≡ kindNumber Kind.Start → ⊥) → (kindNumber kind ≡ kindNumber Kind.End → ⊥) → (kindNumber kind ≡ kindNumber Kind.Eof → next ≡ Phase.Done)
+  told-quiet : (kind : Kind) (content : Span) (name : ℕ) (next : Phase) → Next doc r r (piece .to) next → Silent kind
       → Turn (told r (event kind piece content name) next)
   unfolding told moved
-  told-quiet kind content name next n s e o = told-turn r kind content name next (like-itself r) n o (keeps (s, e, omega arith) refl)
+  told-quiet kind content name next n q =
+      told-turn r kind content name next (like-itself r) n (λ e. absurd (q .2 e)) (keeps (q .0, q .1, omega arith) refl)
 
   refused-quiet : (error : Error) (place : Position) (next : Phase) → Next doc r r (piece .to) next → Plain (numberedOf error .number)
       → Turn (refused r error place piece next)
   unfolding refused moved
-  refused-quiet error place next n p = refused-turn r error place next (like-itself r) n (p .2) (keeps (λ e. omega arith, λ e. omega arith, p) refl)
+  refused-quiet error place next n p =
+      refused-turn r error place next (like-itself r) n (p .2) (keeps (λ e. omega arith, λ e. omega arith, p) refl)
 
   stopped-quiet : (error : Error) (place : Position) → Plain (numberedOf error .number) → Turn (stopped r error place piece)
   unfolding stopped
   stopped-quiet error place p = refused-quiet error place Phase.Done (to-done r) p
 
   ended-quiet : Turn (ended r piece)
-  unfolding ended
-  ended-quiet = told-quiet Kind.Eof _ 0 Phase.Done (to-done r) (λ e. omega arith) (λ e. omega arith) (λ _. refl)
+  unfolding ended told moved
+  ended-quiet = told-turn r Kind.Eof _ 0 Phase.Done (like-itself r) (to-done r) (λ _. refl) (keeps (omega arith) refl)
 
   -- ---- text, references, comments, CDATA, processing instructions
-
-  text-quiet : (content : Span) (next : Phase) → Next doc r r (piece .to) next → Turn (told r (event Kind.Text piece content 0) next)
-  text-quiet content next n = told-quiet Kind.Text content 0 next n (λ e. omega arith) (λ e. omega arith) (λ e. absurd (omega arith))
 
   last-turn : Turn (emitLastText doc r piece)
   unfolding emitLastText emitText
   last-turn =
       pick-cases Turn (eqb (size (textContent doc (r .settings) piece)) 0) _ _
       (λ _. ended-quiet)
-      (λ _. text-quiet _ Phase.Done (to-done r))
+      (λ _. told-quiet Kind.Text _ 0 Phase.Done (to-done r) (omega arith))
 
   module _ (some : Some doc r piece) where
     text-turn : (next : Phase) → Lands doc (piece .to) next → Turn (emitText doc r piece next)
     unfolding emitText
-    text-turn next l = text-quiet _ next (to-next some r next l)
+    text-turn next l = told-quiet Kind.Text _ 0 next (to-next some r next l) (omega arith)
 
     dangling-turn : (next : Phase) → Lands doc (piece .to) next → Turn (emitDangling r piece next)
     unfolding emitDangling
     dangling-turn next l =
         pick-cases Turn (r .settings .«allow_dangling_amp») _ _
-        (λ _. text-quiet piece next (to-next some r next l))
+        (λ _. told-quiet Kind.Text piece 0 next (to-next some r next l) (omega arith))
         (λ _. refused-quiet Error.UnclosedReference _ next (to-next some r next l) (omega arith))
 
     -- an event after which text goes on
-    plain-turn : (kind : Kind) (content : Span) (name : ℕ)
-        → (kindNumber kind ≡ kindNumber Kind.Start → ⊥) → (kindNumber kind ≡ kindNumber Kind.End → ⊥) → (kindNumber kind ≡ kindNumber Kind.Eof → ⊥)
-        → Turn (told r (event kind piece content name) Phase.InsideText)
-    plain-turn kind content name s e o = told-quiet kind content name Phase.InsideText (to-text some r) s e (λ z. absurd (o z))
+    plain-turn : (kind : Kind) (content : Span) (name : ℕ) → Silent kind → Turn (told r (event kind piece content name) Phase.InsideText)
+    plain-turn kind content name q = told-quiet kind content name Phase.InsideText (to-text some r) q
 
     ref-turn : Turn (emitRef r piece)
     unfolding emitRef
-    ref-turn = plain-turn Kind.GeneralRef _ 0 (λ e. omega arith) (λ e. omega arith) (λ e. omega arith)
+    ref-turn = plain-turn Kind.GeneralRef _ 0 (omega arith)
 
-    comment-event : (content : Span) → Turn (bangEvent r Kind.Comment piece content)
+    bang-turn : (kind : Kind) (content : Span) → Silent kind → Turn (bangEvent r kind piece content)
     unfolding bangEvent
-    comment-event content = plain-turn Kind.Comment content 0 (λ e. omega arith) (λ e. omega arith) (λ e. omega arith)
-
-    cdata-event : (content : Span) → Turn (bangEvent r Kind.CData piece content)
-    unfolding bangEvent
-    cdata-event content = plain-turn Kind.CData content 0 (λ e. omega arith) (λ e. omega arith) (λ e. omega arith)
+    bang-turn kind content q = plain-turn kind content 0 q
 
     checked-turn : (content : Span) → Turn (checkedComment doc r piece content)
     unfolding checkedComment
     checked-turn content =
         first-cases Turn (pairFound doc (content .from)) _ _
         (λ p _. pick-cases Turn (ltb (content .to) p) _ _
-        (λ _. comment-event content)
+        (λ _. bang-turn Kind.Comment content (omega arith))
         (λ _. refused-quiet Error.DoubleHyphenInComment _ Phase.InsideText (to-text some r) (omega arith)))
-        (comment-event content)
+        (bang-turn Kind.Comment content (omega arith))
 
     comment-turn : Turn (emitComment doc r piece)
     unfolding emitComment
     comment-turn =
         pick-cases Turn (begins (drop (piece .from) doc) commentOpener) _ _
-        (λ _. pick-cases Turn (r .settings .«check_comments») _ _ (λ _. checked-turn _) (λ _. comment-event _))
+        (λ _. pick-cases Turn (r .settings .«check_comments») _ _ (λ _. checked-turn _) (λ _. bang-turn Kind.Comment _ (omega arith)))
         (λ _. stopped-quiet Error.UnclosedComment _ (omega arith))
 
     cdata-turn : Turn (emitCData doc r piece)
     unfolding emitCData
     cdata-turn =
         pick-cases Turn (begins (drop (piece .from) doc) cdataOpener) _ _
-        (λ _. cdata-event _)
+        (λ _. bang-turn Kind.CData _ (omega arith))
         (λ _. stopped-quiet Error.UnclosedCData _ (omega arith))
 
     question-turn : Turn (emitQuestionMark doc r piece)
@@ -320,12 +312,8 @@ module _ (doc : List ℕ) (cap : ℕ) (last : Span) (r : Reader) (piece : Span) 
         pick-cases Turn (ltb (size piece) 4) _ _
         (λ _. stopped-quiet Error.UnclosedPI _ (omega arith))
         (λ _. pick-cases (λ (e : Event). Turn (told r e Phase.InsideText)) (isDecl (bytes doc (inner piece 2 2))) _ _
-        (λ _. plain-turn Kind.Decl _ 3 (λ e. omega arith) (λ e. omega arith) (λ e. omega arith))
-        (λ _. plain-turn Kind.PI _ _ (λ e. omega arith) (λ e. omega arith) (λ e. omega arith)))
-
-    to-empty : piece .from + 2 < piece .to → Next doc r (withDepth r (further (r .depth))) (piece .to) Phase.InsideEmpty
-    unfolding moved withDepth
-    to-empty h = record { in-place = lt-ltb 0 (r .depth .0 + 1) (omega arith); falls = omega (arith, f, some) }
+        (λ _. plain-turn Kind.Decl _ 3 (omega arith))
+        (λ _. plain-turn Kind.PI _ _ (omega arith)))
 
     -- ---- closing tags
 
@@ -341,54 +329,61 @@ module _ (doc : List ℕ) (cap : ℕ) (last : Span) (r : Reader) (piece : Span) 
           (λ on. stray-turn z on)
           (λ off. refused-turn r (Error.UnmatchedEndTag name) _ Phase.InsideText (like-itself r) (to-text some r) (λ e. omega arith) (refuses refl z z off))
 
-      module _ (z : 0 < r .depth .0) where
-        abbrev below : Reader
-        below = withDepth r (fewer (r .depth))
+      -- b has one name fewer
+      module _ (z : 0 < r .depth .0) (b : Reader) (l : Like r b) (d : b .depth .0 ≡ r .depth .0 - 1) where
+        end-turn : (r .settings .«check_end_names» ≡ true → bytes doc name ≡ bytes doc last) → Turn (endEvent b piece name)
+        unfolding endEvent told moved
+        end-turn same = told-turn b Kind.End name _ Phase.InsideText l (to-text some b) (λ e. absurd (omega arith)) (closes refl z d same)
 
-        end-turn : (r .settings .«check_end_names» ≡ true → bytes doc name ≡ bytes doc last) → Turn (endEvent below piece name)
-        unfolding endEvent told moved withDepth
-        end-turn same =
-            told-turn below Kind.End name _ Phase.InsideText (like-deeper r _) (to-text some below) (λ e. absurd (omega arith)) (closes refl z refl same)
-
-        matched-turn : Turn (matched doc below last piece name)
-        unfolding matched refused moved withDepth
+        matched-turn : Turn (matched doc b last piece name)
+        unfolding matched refused moved
         matched-turn =
-            pick-cases Turn (differs doc (r .settings) last name) _ _
-            (λ e. let d = disagrees doc (r .settings) last name e in
-            refused-turn below (Error.MismatchedEndTag last name) _ Phase.InsideText (like-deeper r _) (to-text some below) (λ e. omega arith)
-            (mismatches refl z refl (d .0) refl (d .1)))
-            (λ e. end-turn (agrees doc (r .settings) last name e))
+            let on = ap (λ (c : Config). c .«check_end_names») (l .settings) in
+            pick-cases Turn (differs doc (b .settings) last name) _ _
+            (λ e. let x = disagrees doc (b .settings) last name e in
+            refused-turn _ (Error.MismatchedEndTag last name) _ Phase.InsideText l (to-text some _) (λ e. omega arith)
+            (mismatches refl z d (sym on ∙ x .0) refl (x .1)))
+            (λ e. end-turn (λ h. agrees doc (b .settings) last name e (on ∙ h)))
 
     close-turn : Turn (emitEnd doc r last piece)
-    unfolding emitEnd
+    unfolding emitEnd withDepth
     close-turn =
         pick-cases Turn (eqb (r .depth .0) 0) _ _
         (λ e. unmatched-turn _ (eqb-true _ _ e))
-        (λ e. let n : r .depth .0 ≡ 0 → ⊥ = eqb-false _ _ e in matched-turn _ (omega arith))
+        (λ e. let n : r .depth .0 ≡ 0 → ⊥ = eqb-false _ _ e in
+        matched-turn _ (omega arith) _ (record { size = refl; settings = refl }) refl)
 
     -- ---- opening tags
 
+    to-empty : (b : Reader) → b .depth .0 ≡ r .depth .0 + 1 → piece .from + 2 < piece .to → Next doc r b (piece .to) Phase.InsideEmpty
+    unfolding moved
+    to-empty b d h = record { in-place = lt-ltb 0 (b .depth .0) (omega arith); falls = omega (arith, f, some) }
+
     -- where there is no room for the name
     module _ (full : Turn (stopped r Error.NameStackFull (at (piece .from)) (span (piece .from) (piece .from)))) where
-      -- the reader has one more name, and goes on after the piece
-      module _ (content : Span) (next : Phase) (n : Next doc r (withDepth r (further (r .depth))) (piece .to) next)
+      module _ (content : Span) (next : Phase) (n : (b : Reader) → b .depth .0 ≡ r .depth .0 + 1 → Next doc r b (piece .to) next)
           (w : content .from + nameLen (bytes doc content) ≤ piece .to) where
-        added-turn : r .depth .0 < cap → Turn (told (withDepth r (further (r .depth))) (event Kind.Start piece content (nameLen (bytes doc content))) next)
-        unfolding told moved withDepth
-        added-turn room = told-turn _ Kind.Start content _ next (like-deeper r _) n (λ e. absurd (omega arith)) (opens refl room refl w)
+        -- b has one name more
+        added-turn : (b : Reader) → Like r b → b .depth .0 ≡ r .depth .0 + 1 → r .depth .0 < cap
+            → Turn (told b (event Kind.Start piece content (nameLen (bytes doc content))) next)
+        unfolding told moved
+        added-turn b l d room = told-turn b Kind.Start content _ next l (n b d) (λ e. absurd (omega arith)) (opens refl room d w)
 
         opened-turn : Turn (opened r (names cap) (tag doc Kind.Start piece content) next)
-        unfolding opened tag
-        opened-turn = pick-cases Turn (ltb (r .depth .0) cap) _ _ (λ e. added-turn (ltb-true _ _ e)) (λ _. full)
+        unfolding opened tag withDepth
+        opened-turn =
+            pick-cases Turn (ltb (r .depth .0) cap) _ _
+            (λ e. added-turn _ (record { size = refl; settings = refl }) refl (ltb-true _ _ e))
+            (λ _. full)
 
       start-turn : Turn (emitStart doc r (names cap) piece)
       unfolding emitStart tag
       start-turn =
           pick-cases Turn (slashed doc piece) _ _
           (λ e. pick-cases Turn (r .settings .«expand_empty_elements») _ _
-          (λ _. opened-turn _ Phase.InsideEmpty (to-empty (slashed-long doc piece e)) (name-within doc piece 1 2 (f .ordered)))
-          (λ _. plain-turn Kind.Empty _ _ (λ e. omega arith) (λ e. omega arith) (λ e. omega arith)))
-          (λ _. opened-turn _ Phase.InsideText (to-text some _) (name-within doc piece 1 1 (f .ordered)))
+          (λ _. opened-turn _ Phase.InsideEmpty (λ b d. to-empty b d (slashed-long doc piece e)) (name-within doc piece 1 2 (f .ordered)))
+          (λ _. plain-turn Kind.Empty _ _ (omega arith)))
+          (λ _. opened-turn _ Phase.InsideText (λ b d. to-text some b) (name-within doc piece 1 1 (f .ordered)))
 
 -- ---- the call
 
@@ -483,12 +478,18 @@ module _ (doc : List ℕ) (cap : ℕ) (last : Span) (r : Reader) where
         let z : r .position .0 ≡ 0 = eqb-true _ _ (both _ _ (simp e at ok) .0) in
         record { after = omega arith; within = begin-within doc; near = rw e (omega arith) }
 
-    expanded-turn : r .phase ≡ Phase.InsideEmpty → Turns (closeExpandedEmpty r last)
-    unfolding closeExpandedEmpty endEvent told moved withDepth inPlace
-    expanded-turn e =
-        let z : 0 < r .depth .0 = ltb-true _ _ (simp e at ok) in
-        told-turn doc cap last r (span (r .position .0) (r .position .0)) (record { after = omega arith; ordered = omega arith; within = in-doc }) _ Kind.End last _
-        Phase.InsideText (like-deeper r _) (record { in-place = refl; falls = rw e (omega arith) }) (λ e. absurd (omega arith)) (closes refl z refl (λ _. refl))
+    module _ (e : r .phase ≡ Phase.InsideEmpty) where
+      -- b has one name fewer
+      expanded-end : (b : Reader) → Like r b → b .depth .0 ≡ r .depth .0 - 1 → Turns (endEvent b (span (r .position .0) (r .position .0)) last)
+      unfolding endEvent told moved inPlace
+      expanded-end b l d =
+          let z : 0 < r .depth .0 = ltb-true _ _ (simp e at ok) in
+          told-turn doc cap last r (span (r .position .0) (r .position .0)) (record { after = omega arith; ordered = omega arith; within = in-doc }) b Kind.End last _
+          Phase.InsideText l (record { in-place = refl; falls = rw e (omega arith) }) (λ e. absurd (omega arith)) (closes refl z d (λ _. refl))
+
+      expanded-turn : Turns (closeExpandedEmpty r last)
+      unfolding closeExpandedEmpty withDepth
+      expanded-turn = expanded-end _ (record { size = refl; settings = refl }) refl
 
     phase-turn : (p : Phase) → r .phase ≡ p → Turns (stepIn doc r last (names cap) p)
     phase-turn Phase.Init e = text-from (begin doc) (from-start e)
