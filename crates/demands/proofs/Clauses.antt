@@ -1,23 +1,25 @@
--- What a call of a run does to the open names, for each kind of answer and any settings. Assumes nothing.
-use Prim.Native.Nat.{ℕ, _+_}
-use mathlib.Core.Path.{_≡_, refl, sym, ap, _∙_}
+-- What a call of a run does to the open names, a law for each kind of answer, with any settings. Assumes nothing.
+use Prim.Native.Nat.{ℕ, _+_, _≤_}
+use mathlib.Core.Path.{_≡_, sym, ap, _∙_}
 use mathlib.Core.List.{List, [], _∷_}
-use mathlib.Core.Bool.{Bool, true, false}
+use mathlib.Core.Bool.{true, false}
 use mathlib.Core.Logic.{_⊎_, inl, inr}
 use native.Mathlib.Omega.{arith}
 use lib.ListN.{length}
 use lib.Dec.{eqb}
-use borrow.Author.Tests.{eq-eqb, ne-eqb}
+use borrow.Author.Tests.{eq-eqb, ne-eqb, eqb-true, eqb-false}
 use Rattle.ground.specs.Choose.{pick}
-use Rattle.state.specs.declared.place.Span.{Span}
+use Rattle.state.specs.declared.config.Config.{Config}
 use Rattle.state.specs.declared.answer.Kind.{Kind}
+use Rattle.state.specs.declared.answer.Answer.{Answer}
+use Rattle.state.specs.Limits.{longest}
 use Rattle.state.specs.Values.{kindNumber, valuesOf}
 use Rattle.state.proofs.Numbers.{no-number, no-kind}
 use Rattle.reader.specs.Names.{nameOf, bytes}
-use Rattle.demands.specs.Run.{World, said, call}
-use Rattle.demands.specs.Answers.{isStart, isEnd, isMismatch}
+use Rattle.demands.specs.Run.{World, said, call, run}
+use Rattle.demands.specs.Answers.{isStart, isEnd, isMismatch, isUnmatched}
 use Rattle.demands.specs.Open.{opened, newest, leftOpen}
-use Rattle.demands.proofs.Held.{Does, keeping, adding, closing, mismatching, straying, refusing}
+use Rattle.demands.proofs.Held.{Does, keeping, adding, closing, mismatching, straying, refusing, held-does, run-held}
 
 module _ (doc : List ℕ) (w : World) where
   abbrev kind : ℕ
@@ -29,7 +31,7 @@ module _ (doc : List ℕ) (w : World) where
   abbrev after : World
   after = call doc w
 
-  pub starts : Does doc w → kind ≡ kindNumber Kind.Start → number ≡ 0 → opened after ≡ nameOf (said doc w) ∷ opened w
+  starts : Does doc w → kind ≡ kindNumber Kind.Start → number ≡ 0 → opened after ≡ nameOf (said doc w) ∷ opened w
   starts (keeping q e) k n = absurd (q .0 k)
   starts (adding l e within) k n = e
   starts (closing l e same) k n = absurd (omega arith)
@@ -37,7 +39,7 @@ module _ (doc : List ℕ) (w : World) where
   starts (straying l e f on) k n = absurd (omega arith)
   starts (refusing m e f off) k n = absurd (omega arith)
 
-  pub others : Does doc w → (kind ≡ kindNumber Kind.Start → ⊥) → (opened after ≡ opened w) ⊎ (opened w ≡ newest w ∷ opened after)
+  others : Does doc w → (kind ≡ kindNumber Kind.Start → ⊥) → (opened after ≡ opened w) ⊎ (opened w ≡ newest w ∷ opened after)
   others (keeping q e) k = inl e
   others (adding l e within) k = absurd (k l)
   others (closing l e same) k = inr e
@@ -55,7 +57,7 @@ module _ (doc : List ℕ) (w : World) where
     pub leaves : opened after ≡ []
     pub allowed : w .reader .settings .«allow_unmatched_ends» ≡ true
 
-  pub ends : Does doc w → kind ≡ kindNumber Kind.End → number ≡ 0 → Closing ⊎ Straying
+  ends : Does doc w → kind ≡ kindNumber Kind.End → number ≡ 0 → Closing ⊎ Straying
   ends (keeping q e) k n = absurd (q .1 k)
   ends (adding l e within) k n = absurd (omega arith)
   ends (closing l e same) k n = inl (record { takes = e; carries = same })
@@ -66,18 +68,20 @@ module _ (doc : List ℕ) (w : World) where
   pub record Mismatching : Type 0 where
     pub takes : opened w ≡ newest w ∷ opened after
     pub checks : w .reader .settings .«check_end_names» ≡ true
+    pub no-end : isEnd (said doc w) ≡ false
     pub expects : valuesOf (said doc w) .expected ≡ newest w
     pub differs : bytes doc (valuesOf (said doc w) .found) ≡ bytes doc (newest w) → ⊥
 
-  pub mismatches : Does doc w → number ≡ 10 → kind ≡ 0 → Mismatching
+  mismatches : Does doc w → number ≡ 10 → kind ≡ 0 → Mismatching
   mismatches (keeping q e) n k = absurd (q .2 .0 n)
   mismatches (adding l e within) n k = absurd (omega arith)
   mismatches (closing l e same) n k = absurd (omega arith)
-  mismatches (mismatching m e on x y) n k = record { takes = e; checks = on; expects = x; differs = y }
+  mismatches (mismatching m e on x y) n k =
+      record { takes = e; checks = on; no-end = ne-eqb kind (kindNumber Kind.End) (λ h. omega arith); expects = x; differs = y }
   mismatches (straying l e f on) n k = absurd (omega arith)
   mismatches (refusing m e f off) n k = absurd (omega arith)
 
-  pub unmatched : Does doc w → number ≡ 11 → kind ≡ 0 → (opened w ≡ []) × (w .reader .settings .«allow_unmatched_ends» ≡ false)
+  unmatched : Does doc w → number ≡ 11 → kind ≡ 0 → (opened w ≡ []) × (w .reader .settings .«allow_unmatched_ends» ≡ false)
   unmatched (keeping q e) n k = absurd (q .2 .1 n)
   unmatched (adding l e within) n k = absurd (omega arith)
   unmatched (closing l e same) n k = absurd (omega arith)
@@ -85,7 +89,7 @@ module _ (doc : List ℕ) (w : World) where
   unmatched (straying l e f on) n k = absurd (omega arith)
   unmatched (refusing m e f off) n k = (e, off)
 
-  pub rests : Does doc w → (kind ≡ kindNumber Kind.Start → ⊥) → (kind ≡ kindNumber Kind.End → ⊥) → (number ≡ 10 → ⊥) → opened after ≡ opened w
+  rests : Does doc w → (kind ≡ kindNumber Kind.Start → ⊥) → (kind ≡ kindNumber Kind.End → ⊥) → (number ≡ 10 → ⊥) → opened after ≡ opened w
   rests (keeping q e) s f m = e
   rests (adding l e within) s f m = absurd (s l)
   rests (closing l e same) s f m = absurd (f l)
@@ -122,3 +126,40 @@ module _ (doc : List ℕ) (w : World) where
     tally (refusing m e f off) =
         let k = no-kind (said doc w) (omega arith) in
         rw (ne-eqb kind 1 (λ x. omega arith), ne-eqb kind 2 (λ x. omega arith), ne-eqb number 10 (λ x. omega arith)) (omega (arith, ap length e, ap length f))
+
+-- ---- the calls of a run
+
+module _ (doc stack : List ℕ) (c : Config) (short : length doc ≤ longest) (n : ℕ) where
+  abbrev now : World
+  now = run doc stack c n
+
+  abbrev answer : Answer
+  answer = said doc now
+
+  pub does : Does doc now
+  does = held-does doc c short now (run-held doc c short stack n)
+
+  pub setting : {A : Type 0} (flag : Config → A) (x : A) → flag c ≡ x → flag (now .reader .settings) ≡ x
+  setting flag x e = ap flag (run-held doc c short stack n .settings) ∙ e
+
+  pub at-start : isStart answer ≡ true → opened (call doc now) ≡ nameOf answer ∷ opened now
+  at-start e = let k = eqb-true (valuesOf answer .kind) (kindNumber Kind.Start) e in starts doc now does k (no-number answer (omega arith))
+
+  pub at-no-start : isStart answer ≡ false → (opened (call doc now) ≡ opened now) ⊎ (opened now ≡ newest now ∷ opened (call doc now))
+  at-no-start e = others doc now does (eqb-false (valuesOf answer .kind) (kindNumber Kind.Start) e)
+
+  pub at-end : isEnd answer ≡ true → Closing doc now ⊎ Straying doc now
+  at-end e = let k = eqb-true (valuesOf answer .kind) (kindNumber Kind.End) e in ends doc now does k (no-number answer (omega arith))
+
+  pub at-mismatch : isMismatch answer ≡ true → Mismatching doc now
+  at-mismatch e = let m = eqb-true (valuesOf answer .number) 10 e in mismatches doc now does m (no-kind answer (omega arith))
+
+  pub at-unmatched : isUnmatched answer ≡ true → (opened now ≡ []) × (now .reader .settings .«allow_unmatched_ends» ≡ false)
+  at-unmatched e = let m = eqb-true (valuesOf answer .number) 11 e in unmatched doc now does m (no-kind answer (omega arith))
+
+  pub at-others : isStart answer ≡ false → isEnd answer ≡ false → isMismatch answer ≡ false → opened (call doc now) ≡ opened now
+  at-others s e m =
+      rests doc now does
+      (eqb-false (valuesOf answer .kind) (kindNumber Kind.Start) s)
+      (eqb-false (valuesOf answer .kind) (kindNumber Kind.End) e)
+      (eqb-false (valuesOf answer .number) 10 m)

@@ -1,18 +1,16 @@
 -- DEMAND 1: every call is answered, a run never meets a bad state, and it comes to its end. Any document within the limit, any settings, any lent stack,
 -- any number of calls from a fresh reader. Assumes nothing.
-use Prim.Native.Nat.{ℕ, zero, suc, _+_, _-_, _≤_, _<_}
+use Prim.Native.Nat.{ℕ, zero, suc, _+_, _-_, _≤_}
 use mathlib.Core.Path.{_≡_, refl, sym, ap, _∙_}
-use mathlib.Core.List.{List, _∷_}
+use mathlib.Core.List.{List}
 use mathlib.Core.Bool.{Bool, true, false}
 use mathlib.Core.Logic.{_↔_}
 use native.Mathlib.Omega.{arith}
 use native.Mathlib.Nat.{zero-add, suc-add}
 use lib.ListN.{length}
 use borrow.Author.Tests.{ne-eqb, eqb-true}
-use Rattle.ground.proofs.Choices.{clash}
 use Rattle.state.specs.declared.config.Config.{Config}
 use Rattle.state.specs.declared.answer.Kind.{Kind}
-use Rattle.state.specs.declared.answer.Answer.{Answer}
 use Rattle.state.specs.declared.run.Phase.{Phase}
 use Rattle.state.specs.declared.run.Reader.{Reader}
 use Rattle.state.specs.declared.run.Step.{Step}
@@ -28,7 +26,7 @@ use Rattle.reader.proofs.Rooms.{bad-step}
 use Rattle.demands.specs.Run.{World, said, call, run, AtRest}
 use Rattle.demands.specs.Answers.{isEof, isBadState}
 use Rattle.demands.specs.Open.{newest}
-use Rattle.demands.proofs.Held.{Held, held-sound, held-turn, run-held}
+use Rattle.demands.proofs.Held.{held-sound, held-turn, run-held}
 
 -- ---- any state
 

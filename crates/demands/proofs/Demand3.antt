@@ -1,29 +1,26 @@
 -- DEMAND 3: no opening is lost and none is closed twice. Any number of calls from a fresh reader, over any document within the limit, any lent stack and
 -- unchanged bytes, stack and settings. A clause that speaks of end checks or of unmatched ends says so; the others hold with any settings.
 -- Assumes nothing.
-use Prim.Native.Nat.{ℕ, zero, suc, _+_, _≤_, _<_}
+use Prim.Native.Nat.{ℕ, zero, suc, _+_, _≤_}
 use mathlib.Core.Path.{_≡_, refl, sym, ap, _∙_}
 use mathlib.Core.List.{List, [], _∷_}
-use mathlib.Core.Bool.{Bool, true, false}
+use mathlib.Core.Bool.{true, false}
 use mathlib.Core.Logic.{_⊎_, inl, inr}
 use native.Mathlib.Omega.{arith}
 use lib.ListN.{length}
-use borrow.Author.Tests.{ne-eqb, eqb-true, eqb-false}
+use borrow.Author.Tests.{ne-eqb}
 use Rattle.ground.proofs.Choices.{clash, pick-cases}
-use Rattle.state.specs.declared.place.Span.{Span}
 use Rattle.state.specs.declared.config.Config.{Config}
-use Rattle.state.specs.declared.answer.Kind.{Kind}
 use Rattle.state.specs.declared.answer.Answer.{Answer}
 use Rattle.state.specs.Limits.{longest}
-use Rattle.state.specs.Values.{kindNumber, valuesOf}
+use Rattle.state.specs.Values.{valuesOf}
 use Rattle.state.specs.Make.{fresh}
-use Rattle.state.proofs.Numbers.{no-number, no-kind}
 use Rattle.reader.specs.Names.{nameOf, bytes}
 use Rattle.demands.specs.Run.{World, said, call, run}
 use Rattle.demands.specs.Answers.{isStart, isEnd, isMismatch, isUnmatched, count}
 use Rattle.demands.specs.Open.{entries, opened, newest, leftOpen, strays}
-use Rattle.demands.proofs.Held.{Does, Held, held-does, run-held, entries-length}
-use Rattle.demands.proofs.Clauses.{Closing, Straying, Mismatching, starts, others, ends, mismatches, unmatched, rests, tally}
+use Rattle.demands.proofs.Held.{run-held, entries-length}
+use Rattle.demands.proofs.Clauses.{Closing, Straying, tally, does, setting, at-start, at-no-start, at-end, at-mismatch, at-unmatched, at-others}
 
 module _ (doc stack : List ℕ) (c : Config) (short : length doc ≤ longest) (n : ℕ) where
   -- after n calls, after one more, and what that one answers
@@ -36,37 +33,23 @@ module _ (doc stack : List ℕ) (c : Config) (short : length doc ≤ longest) (n
   abbrev answer : Answer
   answer = said doc before
 
-  held : Held doc c before
-  held = run-held doc c short stack n
-
-  does : Does doc before
-  does = held-does doc c short before held
-
-  pub setting : {A : Type 0} (flag : Config → A) (x : A) → flag c ≡ x → flag (before .reader .settings) ≡ x
-  setting flag x e = ap flag (held .settings) ∙ e
-
   -- THEOREM: "each Start adds its own name"
   pub start-adds-its-name : isStart answer ≡ true → opened after ≡ nameOf answer ∷ opened before
   unfolding run
-  start-adds-its-name e =
-      let k = eqb-true (valuesOf answer .kind) (kindNumber Kind.Start) e in
-      starts doc before does k (no-number answer (omega arith))
+  start-adds-its-name e = at-start doc stack c short n e
 
-  -- THEOREM: "and nothing else adds one": what is open after was open before
+  -- THEOREM: "and nothing else adds one": what is open after it was open before
   pub nothing-else-adds : isStart answer ≡ false → (opened after ≡ opened before) ⊎ (opened before ≡ newest before ∷ opened after)
   unfolding run
-  nothing-else-adds e = others doc before does (eqb-false (valuesOf answer .kind) (kindNumber Kind.Start) e)
-
-  pub ending : isEnd answer ≡ true → Closing doc before ⊎ Straying doc before
-  ending e = let k = eqb-true (valuesOf answer .kind) (kindNumber Kind.End) e in ends doc before does k (no-number answer (omega arith))
+  nothing-else-adds e = at-no-start doc stack c short n e
 
   module _ (unmatched-refused : c .«allow_unmatched_ends» ≡ false) where
     closing : isEnd answer ≡ true → Closing doc before
-    closing e = by (ending e)
+    closing e = by (at-end doc stack c short n e)
       where
         by : Closing doc before ⊎ Straying doc before → Closing doc before
         by (inl x) = x
-        by (inr x) = clash _ (x .allowed) (setting (λ (s : Config). s .«allow_unmatched_ends») false unmatched-refused)
+        by (inr x) = clash _ (x .allowed) (setting doc stack c short n (λ (s : Config). s .«allow_unmatched_ends») false unmatched-refused)
 
     -- THEOREM: "each End takes away the latest name still open"
     pub end-takes-the-latest : isEnd answer ≡ true → opened before ≡ newest before ∷ opened after
@@ -75,43 +58,30 @@ module _ (doc stack : List ℕ) (c : Config) (short : length doc ≤ longest) (n
 
     -- THEOREM: "and carries its bytes"
     pub end-carries-its-bytes : c .«check_end_names» ≡ true → isEnd answer ≡ true → bytes doc (valuesOf answer .content) ≡ bytes doc (newest before)
-    end-carries-its-bytes on e = closing e .carries (setting (λ (s : Config). s .«check_end_names») true on)
-
-  pub mismatching : isMismatch answer ≡ true → Mismatching doc before
-  mismatching e = let m = eqb-true (valuesOf answer .number) 10 e in mismatches doc before does m (no-kind answer (omega arith))
+    end-carries-its-bytes on e = closing e .carries (setting doc stack c short n (λ (s : Config). s .«check_end_names») true on)
 
   -- THEOREM: "a mismatch takes it away and gives no End"
   pub mismatch-takes-the-latest : isMismatch answer ≡ true → (opened before ≡ newest before ∷ opened after) × (isEnd answer ≡ false)
   unfolding run
-  mismatch-takes-the-latest e =
-      let m = eqb-true (valuesOf answer .number) 10 e in
-      let k = no-kind answer (omega arith) in
-      (mismatching e .takes, ne-eqb (valuesOf answer .kind) (kindNumber Kind.End) (λ x. omega arith))
+  mismatch-takes-the-latest e = (at-mismatch doc stack c short n e .takes, at-mismatch doc stack c short n e .no-end)
 
   -- THEOREM: it tells the two names, whose bytes differ
   pub mismatch-tells-both : isMismatch answer ≡ true
       → (valuesOf answer .expected ≡ newest before) × (bytes doc (valuesOf answer .found) ≡ bytes doc (newest before) → ⊥)
-  mismatch-tells-both e = (mismatching e .expects, mismatching e .differs)
-
-  pub refusing-unmatched : isUnmatched answer ≡ true → (opened before ≡ []) × (before .reader .settings .«allow_unmatched_ends» ≡ false)
-  refusing-unmatched e = let m = eqb-true (valuesOf answer .number) 11 e in unmatched doc before does m (no-kind answer (omega arith))
+  mismatch-tells-both e = (at-mismatch doc stack c short n e .expects, at-mismatch doc stack c short n e .differs)
 
   -- THEOREM: "an unmatched end is refused only with nothing open"
   pub unmatched-with-nothing-open : isUnmatched answer ≡ true → opened before ≡ []
-  unmatched-with-nothing-open e = refusing-unmatched e .0
+  unmatched-with-nothing-open e = at-unmatched doc stack c short n e .0
 
   -- THEOREM: "no other answer takes a name away"
   pub no-other-takes-a-name : isStart answer ≡ false → isEnd answer ≡ false → isMismatch answer ≡ false → opened after ≡ opened before
   unfolding run
-  no-other-takes-a-name s e m =
-      rests doc before does
-      (eqb-false (valuesOf answer .kind) (kindNumber Kind.Start) s)
-      (eqb-false (valuesOf answer .kind) (kindNumber Kind.End) e)
-      (eqb-false (valuesOf answer .number) 10 m)
+  no-other-takes-a-name s e m = at-others doc stack c short n s e m
 
   -- THEOREM: "the open names in order are those that the answers given so far say"
   pub open-names-are-those-told : opened before ≡ leftOpen (before .answers)
-  open-names-are-those-told = held .names
+  open-names-are-those-told = run-held doc c short stack n .names
 
   -- THEOREM: there are as many as the reader's depth
   pub as-many-as-the-depth : length (opened before) ≡ before .reader .depth .0

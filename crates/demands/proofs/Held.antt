@@ -2,10 +2,10 @@
 use Prim.Native.Nat.{ℕ, zero, suc, _+_, _-_, _*_, _≤_, _<_}
 use mathlib.Core.Path.{_≡_, refl, sym, ap, _∙_, subst}
 use mathlib.Core.List.{List, [], _∷_}
-use mathlib.Core.Bool.{Bool, true, false}
+use mathlib.Core.Bool.{true, false}
 use native.Mathlib.Omega.{arith}
 use native.Mathlib.Numerals.{add-one}
-use lib.ListN.{length, getD, set, length-set}
+use lib.ListN.{length, set, length-set}
 use lib.Seq.{getD-set-same, getD-set-other}
 use lib.Dec.{eqb}
 use borrow.Author.Tests.{eq-eqb, ne-eqb}
@@ -14,21 +14,17 @@ use Rattle.state.specs.declared.place.Span.{Span}
 use Rattle.state.specs.declared.config.Config.{Config}
 use Rattle.state.specs.declared.answer.Kind.{Kind}
 use Rattle.state.specs.declared.answer.Answer.{Answer}
-use Rattle.state.specs.declared.run.Reader.{Reader}
-use Rattle.state.specs.declared.run.Step.{Step}
 use Rattle.state.specs.Limits.{longest, slots, capacity}
-use Rattle.state.specs.Place.{span}
 use Rattle.state.specs.Values.{kindNumber, valuesOf}
 use Rattle.state.specs.Make.{fresh}
-use Rattle.state.proofs.Numbers.{no-number, no-kind}
+use Rattle.state.proofs.Numbers.{no-kind}
 use Rattle.state.proofs.Room.{capacity-slots}
 use Rattle.reader.specs.Names.{latest, pushed, nameOf, bytes, written}
 use Rattle.reader.specs.Sound.{inPlace, sound}
 use Rattle.reader.specs.Step.{step}
 use Rattle.reader.proofs.Outside.{Turned, Named, keeps, opens, closes, mismatches, strays, refuses, Quiet, step-turn}
-use Rattle.reader.proofs.States.{Sound, true-sound}
+use Rattle.reader.proofs.States.{true-sound}
 use Rattle.demands.specs.Run.{World, said, call, run}
-use Rattle.demands.specs.Answers.{isStart, isEnd, isMismatch}
 use Rattle.demands.specs.Open.{entries, opened, newest, rest, leftOpen}
 
 -- ---- the names that a stack holds

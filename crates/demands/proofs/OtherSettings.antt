@@ -1,6 +1,6 @@
 -- What follows with settings other than those of demand 3, and of expanded empty elements. The clauses of Demand3 that name no setting hold here too.
 -- Assumes nothing.
-use Prim.Native.Nat.{ℕ, zero, suc, _+_, _≤_}
+use Prim.Native.Nat.{ℕ, suc, _≤_}
 use mathlib.Core.Path.{_≡_, refl, sym, ap, _∙_}
 use mathlib.Core.List.{List, [], _∷_}
 use mathlib.Core.Bool.{Bool, true, false}
@@ -12,7 +12,6 @@ use Rattle.state.specs.declared.place.Span.{Span}
 use Rattle.state.specs.declared.config.Config.{Config}
 use Rattle.state.specs.declared.answer.Answer.{Answer}
 use Rattle.state.specs.declared.run.Phase.{Phase}
-use Rattle.state.specs.declared.run.Reader.{Reader}
 use Rattle.state.specs.declared.run.Step.{Step}
 use Rattle.state.specs.Limits.{longest}
 use Rattle.state.specs.Place.{span}
@@ -21,12 +20,12 @@ use Rattle.state.specs.Make.{told}
 use Rattle.emit.specs.End.{endEvent, closeExpandedEmpty}
 use Rattle.reader.specs.Names.{nameOf, bytes}
 use Rattle.reader.specs.Step.{stepPhase, step}
-use Rattle.demands.specs.Run.{World, said, call, run}
-use Rattle.demands.specs.Answers.{isStart, isEnd, isMismatch, isUnmatched, count}
+use Rattle.demands.specs.Run.{World, said, run}
+use Rattle.demands.specs.Answers.{isStart, isEnd, isMismatch, isUnmatched}
 use Rattle.demands.specs.Open.{opened, newest, rest}
-use Rattle.demands.proofs.Clauses.{Closing, Straying}
+use Rattle.demands.proofs.Clauses.{Closing, Straying, setting, at-end, at-mismatch, at-unmatched}
 use Rattle.demands.proofs.Demand1.{every-state-is-sound}
-use Rattle.demands.proofs.Demand3.{start-adds-its-name, setting, ending, mismatching, refusing-unmatched}
+use Rattle.demands.proofs.Demand3.{start-adds-its-name}
 
 -- a test that must fail
 fails : (t : Bool) → (t ≡ true → ⊥) → t ≡ false
@@ -46,7 +45,7 @@ module _ (doc stack : List ℕ) (c : Config) (short : length doc ≤ longest) (n
   -- THEOREM: any settings: an End takes the latest name away, or nothing is open before and after it
   pub end-takes-or-strays : isEnd answer ≡ true → (opened before ≡ newest before ∷ opened after) ⊎ ((opened before ≡ []) × (opened after ≡ []))
   unfolding run
-  end-takes-or-strays e = by (ending doc stack c short n e)
+  end-takes-or-strays e = by (at-end doc stack c short n e)
     where
       by : Closing doc before ⊎ Straying doc before
           → (opened before ≡ newest before ∷ opened after) ⊎ ((opened before ≡ []) × (opened after ≡ []))
@@ -56,7 +55,7 @@ module _ (doc stack : List ℕ) (c : Config) (short : length doc ≤ longest) (n
   -- THEOREM: with end checks on, an End that finds a name open carries its bytes, though unmatched ends are let through
   pub end-with-a-name-carries-its-bytes : c .«check_end_names» ≡ true → (opened before ≡ [] → ⊥) → isEnd answer ≡ true
       → bytes doc (valuesOf answer .content) ≡ bytes doc (newest before)
-  end-with-a-name-carries-its-bytes on some e = by (ending doc stack c short n e)
+  end-with-a-name-carries-its-bytes on some e = by (at-end doc stack c short n e)
     where
       by : Closing doc before ⊎ Straying doc before → bytes doc (valuesOf answer .content) ≡ bytes doc (newest before)
       by (inl x) = x .carries (setting doc stack c short n (λ (s : Config). s .«check_end_names») true on)
@@ -66,13 +65,13 @@ module _ (doc stack : List ℕ) (c : Config) (short : length doc ≤ longest) (n
   pub no-mismatch-unchecked : c .«check_end_names» ≡ false → isMismatch answer ≡ false
   no-mismatch-unchecked off =
       fails (isMismatch answer)
-      (λ e. clash _ (mismatching doc stack c short n e .checks) (setting doc stack c short n (λ (s : Config). s .«check_end_names») false off))
+      (λ e. clash _ (at-mismatch doc stack c short n e .checks) (setting doc stack c short n (λ (s : Config). s .«check_end_names») false off))
 
   -- THEOREM: where unmatched ends are let through none is refused
   pub none-unmatched-where-allowed : c .«allow_unmatched_ends» ≡ true → isUnmatched answer ≡ false
   none-unmatched-where-allowed on =
       fails (isUnmatched answer)
-      (λ e. clash _ (setting doc stack c short n (λ (s : Config). s .«allow_unmatched_ends») true on) (refusing-unmatched doc stack c short n e .1))
+      (λ e. clash _ (setting doc stack c short n (λ (s : Config). s .«allow_unmatched_ends») true on) (at-unmatched doc stack c short n e .1))
 
 -- ---- expanded empty elements
 

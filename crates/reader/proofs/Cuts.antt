@@ -3,7 +3,7 @@
 use Prim.Native.Nat.{ℕ, _+_, _≤_, _<_}
 use mathlib.Core.Path.{_≡_, refl}
 use mathlib.Core.List.{List, _∷_}
-use mathlib.Core.Logic.{_⊎_, inl, inr}
+use mathlib.Core.Logic.{inl, inr}
 use native.Mathlib.Omega.{arith}
 use lib.ListN.{length, drop, getD}
 use lib.Dec.{eqb, leb}
@@ -22,7 +22,6 @@ use Rattle.parser.specs.declared.first.Found.{Found as FirstFound}
 use Rattle.parser.specs.declared.marks.Found.{Found as MarksFound}
 use Rattle.parser.proofs.Cases.{first-cases, tag-cases, marks-cases}
 use Rattle.parser.proofs.Words.{element-gives, pi-gives, comment-gives, cdata-gives, text-gives, reference-gives}
-use Rattle.state.specs.declared.place.Position.{Position}
 use Rattle.state.specs.declared.place.Span.{Span}
 use Rattle.state.specs.declared.answer.Error.{Error}
 use Rattle.state.specs.declared.answer.Refusal.{Refusal}

@@ -5,9 +5,9 @@ use mathlib.Core.Path.{_≡_, refl, sym, ap, _∙_}
 use mathlib.Core.List.{List}
 use mathlib.Core.Bool.{Bool, true, false, not}
 use native.Mathlib.Omega.{arith}
-use lib.ListN.{length, drop, getD}
+use lib.ListN.{length, drop}
 use lib.Dec.{eqb, leb, ltb}
-use borrow.Author.Tests.{eq-eqb, eqb-true, eqb-false, leb-true, ltb-true, lt-ltb}
+use borrow.Author.Tests.{eq-eqb, eqb-true, eqb-false, ltb-true, lt-ltb}
 use Rattle.ground.specs.Equal.{begins, same}
 use Rattle.ground.specs.Part.{part}
 use Rattle.ground.proofs.Choices.{pick-cases, clash, both}
@@ -20,7 +20,6 @@ use Rattle.utf8.specs.declared.Utf8.{Utf8}
 use Rattle.parser.specs.Hyphens.{pairFound}
 use Rattle.parser.proofs.Cases.{first-cases}
 use Rattle.state.specs.declared.place.Position.{Position}
-use Rattle.state.specs.declared.place.Depth.{Depth}
 use Rattle.state.specs.declared.place.Span.{Span}
 use Rattle.state.specs.declared.config.Config.{Config}
 use Rattle.state.specs.declared.answer.Kind.{Kind}
@@ -30,7 +29,7 @@ use Rattle.state.specs.declared.answer.Answer.{Answer}
 use Rattle.state.specs.declared.run.Phase.{Phase}
 use Rattle.state.specs.declared.run.Reader.{Reader}
 use Rattle.state.specs.declared.run.Step.{Step}
-use Rattle.state.specs.Place.{at, span, size, fewer, further, names, inner}
+use Rattle.state.specs.Place.{at, span, size, names, inner}
 use Rattle.state.specs.Limits.{capacity}
 use Rattle.state.specs.Values.{kindNumber, numberedOf, valuesOf}
 use Rattle.state.specs.Make.{event, moved, withDepth, told, ended, refused, stopped}
@@ -39,7 +38,7 @@ use Rattle.emit.specs.Text.{textContent, emitText, emitLastText}
 use Rattle.emit.specs.Reference.{emitRef, emitDangling}
 use Rattle.emit.specs.Bang.{commentOpener, cdataOpener, bangEvent, checkedComment, emitComment, emitCData}
 use Rattle.emit.specs.Question.{isDecl, questionEvent, emitQuestionMark}
-use Rattle.emit.specs.End.{closingName, endEvent, unmatched, differs, matched, emitEnd, closeExpandedEmpty}
+use Rattle.emit.specs.End.{endEvent, unmatched, differs, matched, emitEnd, closeExpandedEmpty}
 use Rattle.emit.specs.Start.{slashed, tag, opened, emitStart}
 use Rattle.reader.specs.declared.piece.Shape.{Shape}
 use Rattle.reader.specs.declared.piece.Piece.{Piece}

@@ -1,6 +1,6 @@
 -- What a caller knows of the counts, from the promise and the demands alone. Assumes nothing.
 use Prim.Native.Nat.{ℕ, zero, suc, _+_, _≤_}
-use mathlib.Core.Path.{_≡_, refl, sym, ap, _∙_}
+use mathlib.Core.Path.{_≡_, refl, ap, _∙_}
 use mathlib.Core.List.{List}
 use mathlib.Core.Bool.{Bool, true, false}
 use native.Mathlib.Nat.{zero-add, suc-add}
@@ -8,11 +8,9 @@ use native.Mathlib.Omega.{arith}
 use lib.ListN.{length}
 use borrow.Author.Tests.{eqb-true, ne-eqb}
 use Rattle.ground.specs.Choose.{pick}
-use Rattle.state.specs.declared.place.Depth.{Depth}
 use Rattle.state.specs.declared.config.Config.{Config}
 use Rattle.state.specs.declared.answer.Kind.{Kind}
 use Rattle.state.specs.declared.answer.Answer.{Answer}
-use Rattle.state.specs.declared.run.Reader.{Reader}
 use Rattle.state.specs.Limits.{longest}
 use Rattle.state.specs.Values.{kindNumber, valuesOf}
 use Rattle.state.proofs.Numbers.{no-number}
@@ -20,7 +18,6 @@ use Rattle.demands.specs.Run.{World, said, call, run, AtRest}
 use Rattle.demands.specs.Answers.{isStart, isEnd, isEof, isMismatch, count}
 use Rattle.demands.proofs.Demand1.{eof-by-length-and-two, eof-stays}
 use Rattle.demands.proofs.Demand3.{starts-are-ends-mismatches-and-open, as-many-as-the-depth}
-use Rattle.tally.specs.declared.Counts.{Counts}
 use Rattle.tally.specs.Tally.{budget, counts, whole}
 
 -- an Eof is none of the answers that are counted
