@@ -7,17 +7,20 @@ use crate::line::word;
 use crate::says::say_names;
 use crate::says::say_reader;
 use crate::says::say_slots;
+use crate::says::say_tally;
 use crate::says::say_values;
 use crate::settings::settings;
 use reader::advance;
 use reader::content;
 use state::answer::Kind;
+use state::config::Config;
 use state::place::Depth;
 use state::place::Position;
 use state::place::Span;
 use state::run::Made;
 use state::run::Phase;
 use state::run::Reader;
+use tally::tally;
 ghost use mathlib.Core.Path.{_≡_};
 ghost use lib.ListN.{length};
 ghost use Rattle.io.specs.Counts.{Counts};
@@ -35,7 +38,7 @@ pub fn answer(text: &[u8]) {
     }
 }
 
-// A run: its settings, its slots and its bytes stand after the space at `from`.
+// A run, and the counts of another over the same document and stack. Its settings, its slots and its bytes stand after the space at `from`.
 fn run_case(text: &[u8], from: usize) {
     let end = word(text, from);
     let settings = settings(ground::part(text, from, end));
@@ -45,14 +48,23 @@ fn run_case(text: &[u8], from: usize) {
     let document = &space[..n];
     let mut stack = [0usize; 8200];
     let lent = lent(slots.value, &stack);
+    run(document, &mut stack[..lent], settings);
+}
+
+fn run(document: &[u8], stack: &mut [usize], settings: Config) {
+    calls(document, stack, settings);
+    say_tally(tally(document, stack, settings));
+}
+
+fn calls(document: &[u8], stack: &mut [usize], settings: Config) {
     match Reader::new(document, settings) {
-        Made::Fresh(reader) => run(reader, document, &mut stack[..lent]),
+        Made::Fresh(reader) => all(reader, document, stack),
         Made::Refused(_) => say(b"  refused 16 0\n"),
     }
 }
 
 // Calls until end of file, and once more.
-fn run(fresh: Reader, document: &[u8], stack: &mut [usize]) {
+fn all(fresh: Reader, document: &[u8], stack: &mut [usize]) {
     let last = to_end(fresh, document, stack);
     call(last, document, stack);
 }

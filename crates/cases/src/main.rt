@@ -1,6 +1,6 @@
 // Runs cases from standard input, a case to a line, and writes each line with what is answered. A line is one of
 //   NAME NUMBER NUMBER BYTES                                              a function below the reader, whose answer stands behind the line
-//   run SETTINGS SLOTS BYTES                                              every call up to end of file, and one more
+//   run SETTINGS SLOTS BYTES                                              every call up to end of file, one more, and the counts
 //   state SETTINGS PHASE POSITION DEPTH LENGTH SLOTS VALUES BYTES         one call, from the state given
 //   content FROM TO BYTES                                                 the bytes of a span
 // The answers to the last three stand below the line. NAME is one that `leaves.rt` has. A function that compares has its other bytes in place of the

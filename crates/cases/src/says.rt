@@ -6,6 +6,7 @@ use state::answer::Values;
 use state::place::Span;
 use state::run::Phase;
 use state::run::Reader;
+use tally::Tallied;
 
 // An event's word and five numbers, or a refusal's number, place and spans.
 pub fn say_values(values: Values) {
@@ -122,4 +123,19 @@ pub fn say_slots(stack: &[usize]) {
         i += 1;
     }
     say(b"\n");
+}
+
+// What a whole document opens and closes.
+pub fn say_tally(tallied: Tallied) {
+    match tallied {
+        Tallied::Counted(counts) => {
+            let depth = counts.depth;
+            say_number(b"  starts ", counts.openings);
+            say_number(b", ends ", counts.closings);
+            say_number(b", mismatches ", counts.mismatches);
+            say_number(b", open ", depth.0);
+            say(b"\n");
+        }
+        Tallied::Refused(_) => {}
+    }
 }
