@@ -59,6 +59,10 @@ module _ (doc stack : List ℕ) (c : Config) (short : length doc ≤ longest) wh
   pub no-bad-state : (n : ℕ) → isBadState (said doc (after n)) ≡ false
   no-bad-state n = ne-eqb (valuesOf (said doc (after n)) .number) 17 (turn n .no-bad)
 
+  -- THEOREM: settings and length stay those of the fresh reader
+  pub settings-and-length-stay : (n : ℕ) → (after n .reader .settings ≡ c) × (after n .reader .length ≡ length doc)
+  settings-and-length-stay n = let h = run-held doc c short stack n in (h .settings, h .size)
+
   next-position : (n : ℕ) → after n .reader .position .0 ≤ after (suc n) .reader .position .0
   unfolding run call
   next-position n = let t = turn n in omega (arith, t .after, t .ordered, t .left)
