@@ -16,10 +16,12 @@ use Rattle.state.specs.Limits.{longest}
 use Rattle.state.specs.Values.{kindNumber, valuesOf}
 use Rattle.state.proofs.Numbers.{no-number, no-kind}
 use Rattle.reader.specs.Names.{nameOf, bytes}
+use Rattle.reader.specs.Step.{step}
+use Rattle.reader.proofs.Outside.{Tagged}
 use Rattle.demands.specs.Run.{World, said, call, run}
 use Rattle.demands.specs.Answers.{isStart, isEnd, isMismatch, isUnmatched}
 use Rattle.demands.specs.Open.{opened, newest, leftOpen}
-use Rattle.demands.proofs.Held.{Does, keeping, adding, closing, mismatching, straying, refusing, held-does, run-held}
+use Rattle.demands.proofs.Held.{Does, keeping, adding, closing, mismatching, straying, unmatching, held-does, run-held}
 
 module _ (doc : List ℕ) (w : World) where
   abbrev kind : ℕ
@@ -33,19 +35,27 @@ module _ (doc : List ℕ) (w : World) where
 
   starts : Does doc w → kind ≡ kindNumber Kind.Start → number ≡ 0 → opened after ≡ nameOf (said doc w) ∷ opened w
   starts (keeping q e) k n = absurd (q .0 k)
-  starts (adding l e within) k n = e
+  starts (adding l e tag) k n = e
   starts (closing l e same) k n = absurd (omega arith)
   starts (mismatching m e on x y) k n = absurd (omega arith)
   starts (straying l e f on) k n = absurd (omega arith)
-  starts (refusing m e f off) k n = absurd (omega arith)
+  starts (unmatching m e f off) k n = absurd (omega arith)
+
+  tags : Does doc w → kind ≡ kindNumber Kind.Start → number ≡ 0 → Tagged doc (step doc (w .stack) (w .reader))
+  tags (keeping q e) k n = absurd (q .0 k)
+  tags (adding l e tag) k n = tag
+  tags (closing l e same) k n = absurd (omega arith)
+  tags (mismatching m e on x y) k n = absurd (omega arith)
+  tags (straying l e f on) k n = absurd (omega arith)
+  tags (unmatching m e f off) k n = absurd (omega arith)
 
   others : Does doc w → (kind ≡ kindNumber Kind.Start → ⊥) → (opened after ≡ opened w) ⊎ (opened w ≡ newest w ∷ opened after)
   others (keeping q e) k = inl e
-  others (adding l e within) k = absurd (k l)
+  others (adding l e tag) k = absurd (k l)
   others (closing l e same) k = inr e
   others (mismatching m e on x y) k = inr e
   others (straying l e f on) k = inl (f ∙ sym e)
-  others (refusing m e f off) k = inl (f ∙ sym e)
+  others (unmatching m e f off) k = inl (f ∙ sym e)
 
   -- what is so of an End: it takes the latest name away, or there is none and unmatched ends are let through
   pub record Closing : Type 0 where
@@ -59,11 +69,11 @@ module _ (doc : List ℕ) (w : World) where
 
   ends : Does doc w → kind ≡ kindNumber Kind.End → number ≡ 0 → Closing ⊎ Straying
   ends (keeping q e) k n = absurd (q .1 k)
-  ends (adding l e within) k n = absurd (omega arith)
+  ends (adding l e tag) k n = absurd (omega arith)
   ends (closing l e same) k n = inl (record { takes = e; carries = same })
   ends (mismatching m e on x y) k n = absurd (omega arith)
   ends (straying l e f on) k n = inr (record { none = e; leaves = f; allowed = on })
-  ends (refusing m e f off) k n = absurd (omega arith)
+  ends (unmatching m e f off) k n = absurd (omega arith)
 
   pub record Mismatching : Type 0 where
     pub takes : opened w ≡ newest w ∷ opened after
@@ -74,28 +84,28 @@ module _ (doc : List ℕ) (w : World) where
 
   mismatches : Does doc w → number ≡ 10 → kind ≡ 0 → Mismatching
   mismatches (keeping q e) n k = absurd (q .2 .0 n)
-  mismatches (adding l e within) n k = absurd (omega arith)
+  mismatches (adding l e tag) n k = absurd (omega arith)
   mismatches (closing l e same) n k = absurd (omega arith)
   mismatches (mismatching m e on x y) n k =
       record { takes = e; checks = on; no-end = ne-eqb kind (kindNumber Kind.End) (λ h. omega arith); expects = x; differs = y }
   mismatches (straying l e f on) n k = absurd (omega arith)
-  mismatches (refusing m e f off) n k = absurd (omega arith)
+  mismatches (unmatching m e f off) n k = absurd (omega arith)
 
   unmatched : Does doc w → number ≡ 11 → kind ≡ 0 → (opened w ≡ []) × (w .reader .settings .«allow_unmatched_ends» ≡ false)
   unmatched (keeping q e) n k = absurd (q .2 .1 n)
-  unmatched (adding l e within) n k = absurd (omega arith)
+  unmatched (adding l e tag) n k = absurd (omega arith)
   unmatched (closing l e same) n k = absurd (omega arith)
   unmatched (mismatching m e on x y) n k = absurd (omega arith)
   unmatched (straying l e f on) n k = absurd (omega arith)
-  unmatched (refusing m e f off) n k = (e, off)
+  unmatched (unmatching m e f off) n k = (e, off)
 
-  rests : Does doc w → (kind ≡ kindNumber Kind.Start → ⊥) → (kind ≡ kindNumber Kind.End → ⊥) → (number ≡ 10 → ⊥) → opened after ≡ opened w
-  rests (keeping q e) s f m = e
-  rests (adding l e within) s f m = absurd (s l)
-  rests (closing l e same) s f m = absurd (f l)
-  rests (mismatching n e on x y) s f m = absurd (m n)
-  rests (straying l e g on) s f m = absurd (f l)
-  rests (refusing n e g off) s f m = g ∙ sym e
+  keeps-all : Does doc w → (kind ≡ kindNumber Kind.Start → ⊥) → (kind ≡ kindNumber Kind.End → ⊥) → (number ≡ 10 → ⊥) → opened after ≡ opened w
+  keeps-all (keeping q e) s f m = e
+  keeps-all (adding l e tag) s f m = absurd (s l)
+  keeps-all (closing l e same) s f m = absurd (f l)
+  keeps-all (mismatching n e on x y) s f m = absurd (m n)
+  keeps-all (straying l e g on) s f m = absurd (f l)
+  keeps-all (unmatching n e g off) s f m = g ∙ sym e
 
   -- ---- counting
 
@@ -107,7 +117,7 @@ module _ (doc : List ℕ) (w : World) where
     pub tally : Does doc w
         → pick (isStart (said doc w)) 1 0 + stray + length (opened w) ≡ pick (isEnd (said doc w)) 1 0 + pick (isMismatch (said doc w)) 1 0 + length (opened after)
     tally (keeping q e) = rw (ne-eqb kind 1 (q .0), ne-eqb kind 2 (q .1), ne-eqb number 10 (q .2 .0), e)
-    tally (adding l e within) =
+    tally (adding l e tag) =
         let n = no-number (said doc w) (omega arith) in
         rw (eq-eqb kind 1 l, ne-eqb kind 2 (λ x. omega arith), ne-eqb number 10 (λ x. omega arith), e) (omega arith)
     tally (closing l e same) =
@@ -123,7 +133,7 @@ module _ (doc : List ℕ) (w : World) where
         let o : length (leftOpen (w .answers)) ≡ 0 = ap length (sym names ∙ e) in
         rw (ne-eqb kind 1 (λ x. omega arith), eq-eqb kind 2 l, ne-eqb number 10 (λ x. omega arith), eq-eqb (length (leftOpen (w .answers))) 0 o)
         (omega (arith, ap length e, ap length f))
-    tally (refusing m e f off) =
+    tally (unmatching m e f off) =
         let k = no-kind (said doc w) (omega arith) in
         rw (ne-eqb kind 1 (λ x. omega arith), ne-eqb kind 2 (λ x. omega arith), ne-eqb number 10 (λ x. omega arith)) (omega (arith, ap length e, ap length f))
 
@@ -145,6 +155,9 @@ module _ (doc stack : List ℕ) (c : Config) (short : length doc ≤ longest) (n
   pub at-start : isStart answer ≡ true → opened (call doc now) ≡ nameOf answer ∷ opened now
   at-start e = let k = eqb-true (valuesOf answer .kind) (kindNumber Kind.Start) e in starts doc now does k (no-number answer (omega arith))
 
+  pub tag-at-start : isStart answer ≡ true → Tagged doc (step doc (now .stack) (now .reader))
+  tag-at-start e = let k = eqb-true (valuesOf answer .kind) (kindNumber Kind.Start) e in tags doc now does k (no-number answer (omega arith))
+
   pub at-no-start : isStart answer ≡ false → (opened (call doc now) ≡ opened now) ⊎ (opened now ≡ newest now ∷ opened (call doc now))
   at-no-start e = others doc now does (eqb-false (valuesOf answer .kind) (kindNumber Kind.Start) e)
 
@@ -159,7 +172,7 @@ module _ (doc stack : List ℕ) (c : Config) (short : length doc ≤ longest) (n
 
   pub at-others : isStart answer ≡ false → isEnd answer ≡ false → isMismatch answer ≡ false → opened (call doc now) ≡ opened now
   at-others s e m =
-      rests doc now does
+      keeps-all doc now does
       (eqb-false (valuesOf answer .kind) (kindNumber Kind.Start) s)
       (eqb-false (valuesOf answer .kind) (kindNumber Kind.End) e)
       (eqb-false (valuesOf answer .number) 10 m)

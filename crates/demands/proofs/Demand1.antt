@@ -4,29 +4,33 @@ use Prim.Native.Nat.{ℕ, zero, suc, _+_, _-_, _≤_}
 use mathlib.Core.Path.{_≡_, refl, sym, ap, _∙_}
 use mathlib.Core.List.{List}
 use mathlib.Core.Bool.{Bool, true, false}
-use mathlib.Core.Logic.{_↔_}
+use mathlib.Core.Logic.{_↔_, _⊎_, inl, inr}
 use native.Mathlib.Omega.{arith}
 use native.Mathlib.Nat.{zero-add, suc-add}
 use lib.ListN.{length}
-use borrow.Author.Tests.{ne-eqb, eqb-true}
+use lib.Dec.{ltb}
+use borrow.Author.Tests.{ne-eqb, eqb-true, ltb-false}
+use Rattle.ground.proofs.Choices.{pick-cases}
 use Rattle.state.specs.declared.config.Config.{Config}
 use Rattle.state.specs.declared.answer.Kind.{Kind}
 use Rattle.state.specs.declared.run.Phase.{Phase}
 use Rattle.state.specs.declared.run.Reader.{Reader}
 use Rattle.state.specs.declared.run.Step.{Step}
+use Rattle.state.specs.declared.run.Made.{Made}
 use Rattle.state.specs.Limits.{longest, capacity}
 use Rattle.state.specs.Place.{span}
 use Rattle.state.specs.Values.{kindNumber, valuesOf}
-use Rattle.state.specs.Make.{fresh, moved, told, ended, badState}
+use Rattle.state.specs.Make.{fresh, made, moved, told, ended, badState}
+use Rattle.state.proofs.Numbers.{answer-range}
 use Rattle.reader.specs.Names.{written}
 use Rattle.reader.specs.Sound.{sound}
 use Rattle.reader.specs.Step.{stepPhase, step}
-use Rattle.reader.proofs.Outside.{Turned, rankAt, rank, step-turn}
+use Rattle.reader.proofs.Outside.{Turned, rankAt, rank, step-turn, call-numbers}
 use Rattle.reader.proofs.Rooms.{bad-step}
 use Rattle.demands.specs.Run.{World, said, call, run, AtRest}
-use Rattle.demands.specs.Answers.{isEof, isBadState}
+use Rattle.demands.specs.Answers.{AnEvent, ARefusal, isEof, isBadState}
 use Rattle.demands.specs.Open.{newest}
-use Rattle.demands.proofs.Held.{held-sound, held-turn, run-held}
+use Rattle.demands.proofs.Held.{written-length, held-sound, held-turn, run-held}
 
 -- ---- any state
 
@@ -34,15 +38,47 @@ bad-answer : (r : Reader) → isBadState (badState r .answer) ≡ true
 unfolding badState
 bad-answer r = refl
 
--- THEOREM: "17 exactly when" the state is not sound
-pub bad-state-exactly-when-unsound : (doc stack : List ℕ) (r : Reader) → (isBadState (step doc stack r .answer) ≡ true) ↔ (sound doc stack r ≡ false)
-bad-state-exactly-when-unsound doc stack r = (λ b. by (sound doc stack r) refl b, λ e. rw (bad-step doc stack r e) (bad-answer r))
-  where
-    by : (t : Bool) → sound doc stack r ≡ t → isBadState (step doc stack r .answer) ≡ true → t ≡ false
-    by true e b = absurd (step-turn doc stack r e .no-bad (eqb-true (valuesOf (step doc stack r .answer) .number) 17 b))
-    by false e b = refl
+module _ (doc stack : List ℕ) (r : Reader) where
+  sound-numbers : sound doc stack r ≡ true → (valuesOf (step doc stack r .answer) .number ≡ 16 → ⊥) × (valuesOf (step doc stack r .answer) .number ≡ 17 → ⊥)
+  sound-numbers e = call-numbers doc _ _ r (step doc stack r) (step-turn doc stack r e .names)
+
+  -- THEOREM: "17 exactly when" the state is not sound
+  pub bad-state-exactly-when-unsound : (isBadState (step doc stack r .answer) ≡ true) ↔ (sound doc stack r ≡ false)
+  bad-state-exactly-when-unsound = (λ b. by (sound doc stack r) refl b, λ e. rw (bad-step doc stack r e) (bad-answer r))
+    where
+      by : (t : Bool) → sound doc stack r ≡ t → isBadState (step doc stack r .answer) ≡ true → t ≡ false
+      by true e b = absurd (sound-numbers e .1 (eqb-true (valuesOf (step doc stack r .answer) .number) 17 b))
+      by false e b = refl
+
+  -- THEOREM: and then "all unchanged"
+  pub unsound-changes-nothing : sound doc stack r ≡ false → (step doc stack r .reader ≡ r) × (written stack (r .depth .0) (step doc stack r .answer) ≡ stack)
+  unfolding badState written
+  unsound-changes-nothing e = (ap (λ (s : Step). s .reader) (bad-step doc stack r e), ap (λ (s : Step). written stack (r .depth .0) (s .answer)) (bad-step doc stack r e))
+
+  no-16 : (t : Bool) → sound doc stack r ≡ t → valuesOf (step doc stack r .answer) .number ≡ 16 → ⊥
+  no-16 true e = sound-numbers e .0
+  no-16 false e = λ n. let b = eqb-true (valuesOf (step doc stack r .answer) .number) 17 (bad-state-exactly-when-unsound .1 e) in omega arith
+
+  -- THEOREM: "every call returns an event, end of file or a numbered refusal of document 01"
+  pub every-call-is-answered : AnEvent (step doc stack r .answer) ⊎ ARefusal (step doc stack r .answer)
+  every-call-is-answered = by (answer-range (step doc stack r .answer))
+    where
+      by : AnEvent (step doc stack r .answer)
+          ⊎ ((valuesOf (step doc stack r .answer) .kind ≡ 0) × (1 ≤ valuesOf (step doc stack r .answer) .number) × (valuesOf (step doc stack r .answer) .number ≤ 17))
+          → AnEvent (step doc stack r .answer) ⊎ ARefusal (step doc stack r .answer)
+      by (inl x) = inl x
+      by (inr x) = inr (x .0, x .1, x .2, no-16 (sound doc stack r) refl)
 
 -- ---- a run
+
+-- THEOREM: where a reader is made, the document is within the limit, and the reader is that of a run before its first call
+pub a-reader-made-is-a-run's : (doc stack : List ℕ) (c : Config) (r : Reader) → made (length doc) c ≡ Made.Fresh r
+    → (length doc ≤ longest) × (r ≡ run doc stack c 0 .reader)
+unfolding made run
+a-reader-made-is-a-run's doc stack c r =
+    pick-cases (λ (m : Made). m ≡ Made.Fresh r → (length doc ≤ longest) × (r ≡ fresh (length doc) c)) (ltb longest (length doc)) _ _
+    (λ _ h. let z : _≡_ {A = ℕ} 0 1 = cc in absurd (omega arith))
+    (λ e h. (ltb-false longest (length doc) e, cc))
 
 module _ (doc stack : List ℕ) (c : Config) (short : length doc ≤ longest) where
   abbrev after : ℕ → World
@@ -57,7 +93,16 @@ module _ (doc stack : List ℕ) (c : Config) (short : length doc ≤ longest) wh
 
   -- THEOREM: no call of a run answers 17
   pub no-bad-state : (n : ℕ) → isBadState (said doc (after n)) ≡ false
-  no-bad-state n = ne-eqb (valuesOf (said doc (after n)) .number) 17 (turn n .no-bad)
+  no-bad-state n = ne-eqb (valuesOf (said doc (after n)) .number) 17 (call-numbers doc _ _ _ _ (turn n .names) .1)
+
+  -- THEOREM: the stack keeps its length, and no more names are open than it has room for
+  pub stack-keeps-its-length : (n : ℕ) → length (after n .stack) ≡ length stack
+  unfolding run call
+  stack-keeps-its-length zero = refl
+  stack-keeps-its-length (suc n) = written-length (said doc (after n)) (after n .stack) (after n .reader .depth .0) ∙ stack-keeps-its-length n
+
+  pub depth-within-capacity : (n : ℕ) → after n .reader .depth .0 ≤ capacity (length stack)
+  depth-within-capacity n = rw (← stack-keeps-its-length n) (run-held doc c short stack n .deep)
 
   -- THEOREM: settings and length stay those of the fresh reader
   pub settings-and-length-stay : (n : ℕ) → (after n .reader .settings ≡ c) × (after n .reader .length ≡ length doc)
@@ -115,9 +160,9 @@ module _ (doc stack : List ℕ) (c : Config) (short : length doc ≤ longest) wh
     unfolding run call written ended told
     done-stack = ap (λ (s : Step). written (after n .stack) (after n .reader .depth .0) (s .answer)) done-step
 
-  rests : (n : ℕ) → after n .reader .phase ≡ Phase.Done → (k : ℕ) → AtRest doc (after n) (after (k + n))
-  rests n done zero = rw (zero-add n) (record { says = done-says n done; reader = refl; stack = refl })
-  rests n done (suc k) = rw (suc-add k n) (on (rests n done k))
+  stays : (n : ℕ) → after n .reader .phase ≡ Phase.Done → (k : ℕ) → AtRest doc (after n) (after (k + n))
+  stays n done zero = rw (zero-add n) (record { says = done-says n done; reader = refl; stack = refl })
+  stays n done (suc k) = rw (suc-add k n) (on (stays n done k))
     where
       on : AtRest doc (after n) (after (k + n)) → AtRest doc (after n) (after (suc (k + n)))
       on x =
@@ -129,7 +174,7 @@ module _ (doc stack : List ℕ) (c : Config) (short : length doc ≤ longest) wh
             stack = done-stack (k + n) d ∙ x .stack;
           }
 
-  -- THEOREM: call number length + 2, the one after length + 1 calls, answers Eof if none before it did
+  -- THEOREM: "end of file comes by call number length + 2", the one after length + 1 calls
   pub eof-by-length-and-two : isEof (said doc (after (length doc + 1))) ≡ true
   eof-by-length-and-two = done-says (length doc + 1) done-after-length-and-one
 
@@ -137,6 +182,6 @@ module _ (doc stack : List ℕ) (c : Config) (short : length doc ≤ longest) wh
   unfolding run call
   eof-done n e = turn n .over (eqb-true (valuesOf (said doc (after n)) .kind) (kindNumber Kind.Eof) e)
 
-  -- THEOREM: from the first Eof on every call answers Eof and changes nothing
+  -- THEOREM: from an Eof on every call answers Eof and changes nothing
   pub eof-stays : (n : ℕ) → isEof (said doc (after n)) ≡ true → (k : ℕ) → AtRest doc (after (suc n)) (after (k + suc n))
-  eof-stays n e k = rests (suc n) (eof-done n e) k
+  eof-stays n e k = stays (suc n) (eof-done n e) k

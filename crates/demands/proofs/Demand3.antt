@@ -7,20 +7,25 @@ use mathlib.Core.List.{List, [], _∷_}
 use mathlib.Core.Bool.{true, false}
 use mathlib.Core.Logic.{_⊎_, inl, inr}
 use native.Mathlib.Omega.{arith}
-use lib.ListN.{length}
-use borrow.Author.Tests.{ne-eqb}
+use lib.ListN.{length, take}
+use borrow.Author.Tests.{ne-eqb, eqb-false}
 use Rattle.ground.proofs.Choices.{clash, pick-cases}
+use Rattle.ground.proofs.Lists.{part-first}
+use Rattle.white.specs.White.{nameLen}
 use Rattle.state.specs.declared.config.Config.{Config}
+use Rattle.state.specs.declared.answer.Kind.{Kind}
 use Rattle.state.specs.declared.answer.Answer.{Answer}
 use Rattle.state.specs.Limits.{longest}
-use Rattle.state.specs.Values.{valuesOf}
+use Rattle.state.specs.Values.{kindNumber, valuesOf}
 use Rattle.state.specs.Make.{fresh}
 use Rattle.reader.specs.Names.{nameOf, bytes}
+use Rattle.reader.specs.Step.{step}
+use Rattle.reader.proofs.Outside.{name-fits}
 use Rattle.demands.specs.Run.{World, said, call, run}
 use Rattle.demands.specs.Answers.{isStart, isEnd, isMismatch, isUnmatched, count}
 use Rattle.demands.specs.Open.{entries, opened, newest, leftOpen, strays}
-use Rattle.demands.proofs.Held.{run-held, entries-length}
-use Rattle.demands.proofs.Clauses.{Closing, Straying, tally, does, setting, at-start, at-no-start, at-end, at-mismatch, at-unmatched, at-others}
+use Rattle.demands.proofs.Held.{other-writes, entries-length, held-turn, run-held}
+use Rattle.demands.proofs.Clauses.{Closing, Straying, tally, does, setting, at-start, tag-at-start, at-no-start, at-end, at-mismatch, at-unmatched, at-others}
 
 module _ (doc stack : List ℕ) (c : Config) (short : length doc ≤ longest) (n : ℕ) where
   -- after n calls, after one more, and what that one answers
@@ -33,10 +38,20 @@ module _ (doc stack : List ℕ) (c : Config) (short : length doc ≤ longest) (n
   abbrev answer : Answer
   answer = said doc before
 
+  in-document : step doc (before .stack) (before .reader) .reader .position .0 ≤ length doc
+  in-document = let t = held-turn doc c short before (run-held doc c short stack n) in omega (arith, t .left, t .within)
+
   -- THEOREM: "each Start adds its own name"
   pub start-adds-its-name : isStart answer ≡ true → opened after ≡ nameOf answer ∷ opened before
   unfolding run
   start-adds-its-name e = at-start doc stack c short n e
+
+  -- THEOREM: that is the name of its tag: the bytes of its content before the first white space
+  pub the-name-is-its-tag's : isStart answer ≡ true
+      → bytes doc (nameOf answer) ≡ take (nameLen (bytes doc (valuesOf answer .content))) (bytes doc (valuesOf answer .content))
+  the-name-is-its-tag's e =
+      let t = tag-at-start doc stack c short n e in
+      rw (← t .named) (part-first doc _ _ _ (t .ordered) (omega (arith, t .within, in-document)) (name-fits doc _ t))
 
   -- THEOREM: "and nothing else adds one": what is open after it was open before
   pub nothing-else-adds : isStart answer ≡ false → (opened after ≡ opened before) ⊎ (opened before ≡ newest before ∷ opened after)
@@ -79,6 +94,12 @@ module _ (doc stack : List ℕ) (c : Config) (short : length doc ≤ longest) (n
   unfolding run
   no-other-takes-a-name s e m = at-others doc stack c short n s e m
 
+  -- THEOREM: only a Start writes on the stack
+  pub only-a-start-writes : isStart answer ≡ false → after .stack ≡ before .stack
+  unfolding run call
+  only-a-start-writes e =
+      other-writes answer (before .stack) (before .reader .depth .0) (eqb-false (valuesOf answer .kind) (kindNumber Kind.Start) e)
+
   -- THEOREM: "the open names in order are those that the answers given so far say"
   pub open-names-are-those-told : opened before ≡ leftOpen (before .answers)
   open-names-are-those-told = run-held doc c short stack n .names
@@ -91,7 +112,7 @@ module _ (doc stack : List ℕ) (c : Config) (short : length doc ≤ longest) wh
   abbrev answers : ℕ → List Answer
   answers n = run doc stack c n .answers
 
-  -- with any settings: as many Starts, and Ends with nothing open, as Ends, mismatches and open names
+  -- THEOREM: with any settings, as many Starts and Ends with nothing open as Ends, mismatches and open names
   pub all-counts : (n : ℕ)
       → count isStart (answers n) + strays (answers n) ≡ count isEnd (answers n) + count isMismatch (answers n) + length (opened (run doc stack c n))
   unfolding run call count strays fresh entries

@@ -22,7 +22,7 @@ use Rattle.state.proofs.Room.{capacity-slots}
 use Rattle.reader.specs.Names.{latest, pushed, nameOf, bytes, written}
 use Rattle.reader.specs.Sound.{inPlace, sound}
 use Rattle.reader.specs.Step.{step}
-use Rattle.reader.proofs.Outside.{Turned, Named, keeps, opens, closes, mismatches, strays, refuses, Quiet, step-turn}
+use Rattle.reader.proofs.Outside.{Turned, Named, keeps, opens, closes, mismatches, strays, unmatches, Quiet, Tagged, name-within, step-turn}
 use Rattle.reader.proofs.States.{true-sound}
 use Rattle.demands.specs.Run.{World, said, call, run}
 use Rattle.demands.specs.Open.{entries, opened, newest, rest, leftOpen}
@@ -74,11 +74,11 @@ module _ (a : Answer) where
     unfolding written
     start-writes k = rw (eq-eqb _ _ k)
 
-    other-writes : (valuesOf a .kind ≡ kindNumber Kind.Start → ⊥) → written stack d a ≡ stack
+    pub other-writes : (valuesOf a .kind ≡ kindNumber Kind.Start → ⊥) → written stack d a ≡ stack
     unfolding written
     other-writes n = rw (ne-eqb _ _ n)
 
-    written-length : length (written stack d a) ≡ length stack
+    pub written-length : length (written stack d a) ≡ length stack
     unfolding written pushed
     written-length = pick-cases (λ (l : List ℕ). length l ≡ length stack) (eqb (valuesOf a .kind) (kindNumber Kind.Start)) _ _ (λ _. simp length-set) (λ _. refl)
 
@@ -112,13 +112,13 @@ module _ (a : Answer) where
 pub data Does (doc : List ℕ) (w : World) : Type 0 where
   keeping : Quiet (said doc w) → opened (call doc w) ≡ opened w → Does doc w
   adding : valuesOf (said doc w) .kind ≡ kindNumber Kind.Start → opened (call doc w) ≡ nameOf (said doc w) ∷ opened w
-      → nameOf (said doc w) .to ≤ call doc w .reader .position .0 → Does doc w
+      → Tagged doc (step doc (w .stack) (w .reader)) → Does doc w
   closing : valuesOf (said doc w) .kind ≡ kindNumber Kind.End → opened w ≡ newest w ∷ opened (call doc w)
       → (w .reader .settings .«check_end_names» ≡ true → bytes doc (valuesOf (said doc w) .content) ≡ bytes doc (newest w)) → Does doc w
   mismatching : valuesOf (said doc w) .number ≡ 10 → opened w ≡ newest w ∷ opened (call doc w) → w .reader .settings .«check_end_names» ≡ true
       → valuesOf (said doc w) .expected ≡ newest w → (bytes doc (valuesOf (said doc w) .found) ≡ bytes doc (newest w) → ⊥) → Does doc w
   straying : valuesOf (said doc w) .kind ≡ kindNumber Kind.End → opened w ≡ [] → opened (call doc w) ≡ [] → w .reader .settings .«allow_unmatched_ends» ≡ true → Does doc w
-  refusing : valuesOf (said doc w) .number ≡ 11 → opened w ≡ [] → opened (call doc w) ≡ [] → w .reader .settings .«allow_unmatched_ends» ≡ false → Does doc w
+  unmatching : valuesOf (said doc w) .number ≡ 11 → opened w ≡ [] → opened (call doc w) ≡ [] → w .reader .settings .«allow_unmatched_ends» ≡ false → Does doc w
 
 none-open : (stack : List ℕ) (d : ℕ) → d ≡ 0 → entries stack d ≡ []
 unfolding entries
@@ -131,9 +131,9 @@ module _ (doc : List ℕ) (w : World) (deep : w .reader .depth .0 ≤ capacity (
   does : Named doc (capacity (length (w .stack))) (newest w) (w .reader) (step doc (w .stack) (w .reader)) → Does doc w
   unfolding call
   does (keeps q e) = keeping q (rw (other-writes (said doc w) (w .stack) d (q .0), e) refl)
-  does (opens k room e within) =
+  does (opens k room e tag) =
       let h : d * slots + 1 < length (w .stack) = omega (arith, capacity-slots (length (w .stack)) (d + 1) (omega arith)) in
-      adding k (rw (start-writes (said doc w) (w .stack) d k, e) (entries-pushed (w .stack) d (nameOf (said doc w)) h)) within
+      adding k (rw (start-writes (said doc w) (w .stack) d k, e) (entries-pushed (w .stack) d (nameOf (said doc w)) h)) tag
   does (closes k z e same) =
       let n : valuesOf (said doc w) .kind ≡ kindNumber Kind.Start → ⊥ = λ e. omega arith in
       closing k (rw (other-writes (said doc w) (w .stack) d n, e) (entries-latest (w .stack) d z)) same
@@ -141,16 +141,16 @@ module _ (doc : List ℕ) (w : World) (deep : w .reader .depth .0 ≤ capacity (
       let n : valuesOf (said doc w) .kind ≡ kindNumber Kind.Start → ⊥ = λ e. let z = no-kind (said doc w) (omega arith) in omega arith in
       mismatching m (rw (other-writes (said doc w) (w .stack) d n, e) (entries-latest (w .stack) d z)) on x y
   does (strays k z e on) = straying k (none-open _ _ z) (none-open _ _ e) on
-  does (refuses m z e off) = refusing m (none-open _ _ z) (none-open _ _ e) off
+  does (unmatches m z e off) = unmatching m (none-open _ _ z) (none-open _ _ e) off
 
   stays-deep : Named doc (capacity (length (w .stack))) (newest w) (w .reader) (step doc (w .stack) (w .reader))
       → step doc (w .stack) (w .reader) .reader .depth .0 ≤ capacity (length (w .stack))
   stays-deep (keeps q e) = omega arith
-  stays-deep (opens k room e within) = omega arith
+  stays-deep (opens k room e tag) = omega arith
   stays-deep (closes k z e same) = omega arith
   stays-deep (mismatches m z e on x y) = omega arith
   stays-deep (strays k z e on) = omega arith
-  stays-deep (refuses m z e off) = omega arith
+  stays-deep (unmatches m z e off) = omega arith
 
 -- ---- what holds between two calls
 
@@ -196,11 +196,11 @@ module _ (doc : List ℕ) (c : Config) (short : length doc ≤ longest) where
 
     call-names : Does doc w → opened (call doc w) ≡ leftOpen (said doc w ∷ w .answers)
     call-names (keeping q e) = e ∙ h .names ∙ sym (left-other (said doc w) (w .answers) (q .0) (q .1) (q .2 .0))
-    call-names (adding k e within) = e ∙ ap (λ (ns : List Span). nameOf (said doc w) ∷ ns) (h .names) ∙ sym (left-start (said doc w) (w .answers) k)
+    call-names (adding k e tag) = e ∙ ap (λ (ns : List Span). nameOf (said doc w) ∷ ns) (h .names) ∙ sym (left-start (said doc w) (w .answers) k)
     call-names (closing k e same) = ap rest (sym e ∙ h .names) ∙ sym (left-end (said doc w) (w .answers) k)
     call-names (mismatching m e on x y) = ap rest (sym e ∙ h .names) ∙ sym (left-mismatch (said doc w) (w .answers) m)
     call-names (straying k e f on) = f ∙ ap rest (sym e ∙ h .names) ∙ sym (left-end (said doc w) (w .answers) k)
-    call-names (refusing m e f off) =
+    call-names (unmatching m e f off) =
         let z = no-kind (said doc w) (omega arith) in
         f ∙ sym e ∙ h .names ∙ sym (left-other (said doc w) (w .answers) (λ e. omega arith) (λ e. omega arith) (λ e. omega arith))
 
@@ -210,13 +210,17 @@ module _ (doc : List ℕ) (c : Config) (short : length doc ≤ longest) where
         let b : Behind (w .reader .position .0) (newest w ∷ opened (call doc w)) = subst (Behind (w .reader .position .0)) e (h .behind) in
         further _ _ (opened (call doc w)) up (b .2)
 
+    name-reaches : Tagged doc (step doc (w .stack) (w .reader)) → nameOf (said doc w) .to ≤ call doc w .reader .position .0
+    unfolding call
+    name-reaches tag = name-within doc (step doc (w .stack) (w .reader)) tag
+
     call-behind : w .reader .position .0 ≤ call doc w .reader .position .0 → Does doc w → Behind (call doc w .reader .position .0) (opened (call doc w))
     call-behind up (keeping q e) = rw e (further _ _ (opened w) up (h .behind))
-    call-behind up (adding k e within) = rw e (omega arith, within, further _ _ (opened w) up (h .behind))
+    call-behind up (adding k e tag) = rw e (omega arith, name-reaches tag, further _ _ (opened w) up (h .behind))
     call-behind up (closing k e same) = taken-behind up e
     call-behind up (mismatching m e on x y) = taken-behind up e
     call-behind up (straying k e f on) = rw f tt
-    call-behind up (refusing m e f off) = rw f tt
+    call-behind up (unmatching m e f off) = rw f tt
 
     call-held : Held doc c (call doc w)
     unfolding call

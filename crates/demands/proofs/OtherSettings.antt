@@ -7,7 +7,7 @@ use mathlib.Core.Bool.{Bool, true, false}
 use mathlib.Core.Logic.{_⊎_, inl, inr}
 use native.Mathlib.Omega.{arith}
 use lib.ListN.{length, getD}
-use Rattle.ground.proofs.Choices.{clash}
+use Rattle.ground.proofs.Choices.{clash, must-fail}
 use Rattle.state.specs.declared.place.Span.{Span}
 use Rattle.state.specs.declared.config.Config.{Config}
 use Rattle.state.specs.declared.answer.Answer.{Answer}
@@ -18,19 +18,15 @@ use Rattle.state.specs.Place.{span}
 use Rattle.state.specs.Values.{valuesOf}
 use Rattle.state.specs.Make.{told}
 use Rattle.emit.specs.End.{endEvent, closeExpandedEmpty}
+use Rattle.emit.specs.Start.{slashed}
 use Rattle.reader.specs.Names.{nameOf, bytes}
 use Rattle.reader.specs.Step.{stepPhase, step}
-use Rattle.demands.specs.Run.{World, said, run}
+use Rattle.demands.specs.Run.{World, said, call, run}
 use Rattle.demands.specs.Answers.{isStart, isEnd, isMismatch, isUnmatched}
 use Rattle.demands.specs.Open.{opened, newest, rest}
-use Rattle.demands.proofs.Clauses.{Closing, Straying, setting, at-end, at-mismatch, at-unmatched}
+use Rattle.demands.proofs.Clauses.{Closing, Straying, setting, tag-at-start, at-end, at-mismatch, at-unmatched}
 use Rattle.demands.proofs.Demand1.{every-state-is-sound}
 use Rattle.demands.proofs.Demand3.{start-adds-its-name}
-
--- a test that must fail
-fails : (t : Bool) → (t ≡ true → ⊥) → t ≡ false
-fails true n = absurd (n refl)
-fails false n = refl
 
 module _ (doc stack : List ℕ) (c : Config) (short : length doc ≤ longest) (n : ℕ) where
   abbrev before : World
@@ -64,13 +60,13 @@ module _ (doc stack : List ℕ) (c : Config) (short : length doc ≤ longest) (n
   -- THEOREM: with end checks off there is no mismatch
   pub no-mismatch-unchecked : c .«check_end_names» ≡ false → isMismatch answer ≡ false
   no-mismatch-unchecked off =
-      fails (isMismatch answer)
+      must-fail (isMismatch answer)
       (λ e. clash _ (at-mismatch doc stack c short n e .checks) (setting doc stack c short n (λ (s : Config). s .«check_end_names») false off))
 
   -- THEOREM: where unmatched ends are let through none is refused
   pub none-unmatched-where-allowed : c .«allow_unmatched_ends» ≡ true → isUnmatched answer ≡ false
   none-unmatched-where-allowed on =
-      fails (isUnmatched answer)
+      must-fail (isUnmatched answer)
       (λ e. clash _ (setting doc stack c short n (λ (s : Config). s .«allow_unmatched_ends») true on) (at-unmatched doc stack c short n e .1))
 
 -- ---- expanded empty elements
@@ -96,23 +92,27 @@ module _ (doc stack : List ℕ) (c : Config) (short : length doc ≤ longest) wh
   abbrev first : List Span → Span
   first ns = getD ns 0 (span 0 0)
 
-  -- THEOREM: with any settings, the answer after the Start of an expanded empty element is its End, whose content is the Start's own name; then the names
-  -- that were open before the two are open
-  pub expanded-end-is-its-start's : (n : ℕ) → isStart (said doc (at n)) ≡ true → at (suc n) .reader .phase ≡ Phase.InsideEmpty
+  inside-after : (n : ℕ) → isStart (said doc (at n)) ≡ true → slashed doc (valuesOf (said doc (at n)) .piece) ≡ true → at (suc n) .reader .phase ≡ Phase.InsideEmpty
+  unfolding run call
+  inside-after n start ends = tag-at-start doc stack c short n start .expands ends
+
+  -- THEOREM: with any settings, where the tag of a Start ends in `/>`, the next answer is its End, whose content is the Start's own name; then those names are
+  -- open that were before the two
+  pub expanded-end-has-its-start's-name : (n : ℕ) → isStart (said doc (at n)) ≡ true → slashed doc (valuesOf (said doc (at n)) .piece) ≡ true
       → (isEnd (said doc (at (suc n))) ≡ true)
       × (valuesOf (said doc (at (suc n))) .content ≡ nameOf (said doc (at n)))
       × (opened (at (suc (suc n))) ≡ opened (at n))
-  expanded-end-is-its-start's n start inside =
-      let adds = start-adds-its-name doc stack c short n start in
-      let e = inside-ends (suc n) inside in
-      by adds (end-takes-or-strays doc stack c short (suc n) e)
+  expanded-end-has-its-start's-name n start ends =
+      let inside = inside-after n start ends in
+      by inside (start-adds-its-name doc stack c short n start) (end-takes-or-strays doc stack c short (suc n) (inside-ends (suc n) inside))
     where
-      by : opened (at (suc n)) ≡ nameOf (said doc (at n)) ∷ opened (at n)
+      by : at (suc n) .reader .phase ≡ Phase.InsideEmpty
+          → opened (at (suc n)) ≡ nameOf (said doc (at n)) ∷ opened (at n)
           → (opened (at (suc n)) ≡ newest (at (suc n)) ∷ opened (at (suc (suc n)))) ⊎ ((opened (at (suc n)) ≡ []) × (opened (at (suc (suc n))) ≡ []))
           → (isEnd (said doc (at (suc n))) ≡ true)
           × (valuesOf (said doc (at (suc n))) .content ≡ nameOf (said doc (at n)))
           × (opened (at (suc (suc n))) ≡ opened (at n))
-      by adds (inl takes) =
+      by inside adds (inl takes) =
           let same = sym takes ∙ adds in
           (inside-ends (suc n) inside, inside-content (suc n) inside ∙ ap first same, ap rest same)
-      by adds (inr none) = let z : _≡_ {A = ℕ} 0 (suc (length (opened (at n)))) = ap length (sym (none .0) ∙ adds) in absurd (omega arith)
+      by inside adds (inr none) = let z : _≡_ {A = ℕ} 0 (suc (length (opened (at n)))) = ap length (sym (none .0) ∙ adds) in absurd (omega arith)

@@ -1,5 +1,6 @@
--- The answers that demand 3 names, and how many there are of each. Both are told from answers alone.
-use Prim.Native.Nat.{ℕ, _+_}
+-- The answers that the demands name, and how many there are of a kind. All is told from answers alone.
+use Prim.Native.Nat.{ℕ, _+_, _≤_}
+use mathlib.Core.Path.{_≡_}
 use mathlib.Core.Bool.{Bool}
 use mathlib.Core.List.{List, [], _∷_}
 use lib.Dec.{eqb}
@@ -7,6 +8,14 @@ use Rattle.ground.specs.Choose.{pick}
 use Rattle.state.specs.declared.answer.Kind.{Kind}
 use Rattle.state.specs.declared.answer.Answer.{Answer}
 use Rattle.state.specs.Values.{kindNumber, valuesOf}
+
+-- an event of one of the ten kinds, end of file among them
+abbrev pub AnEvent : Answer → Type 0
+AnEvent a = (1 ≤ valuesOf a .kind) × (valuesOf a .kind ≤ 10) × (valuesOf a .number ≡ 0)
+
+-- a refusal by one of the paper's numbers; 16 is for making a reader, and no answer of a call
+abbrev pub ARefusal : Answer → Type 0
+ARefusal a = (valuesOf a .kind ≡ 0) × (1 ≤ valuesOf a .number) × (valuesOf a .number ≤ 17) × (valuesOf a .number ≡ 16 → ⊥)
 
 abbrev pub isStart : Answer → Bool
 isStart a = eqb (valuesOf a .kind) (kindNumber Kind.Start)

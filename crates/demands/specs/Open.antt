@@ -26,7 +26,7 @@ newest w = latest (w .stack) (w .reader .depth .0)
 -- names without the latest
 abbrev pub rest : List Span → List Span
 rest [] = []
-rest (latest ∷ others) = others
+rest (name ∷ others) = others
 
 -- the names that answers leave open, told from the answers alone: a Start adds its own, an End or a mismatch takes the latest away
 unfoldable pub leftOpen : List Answer → List Span

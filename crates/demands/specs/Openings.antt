@@ -117,6 +117,17 @@ openings =
     ∷ says Kind.End (span 5 6) []
     ∷ says Kind.End (span 9 10) []
     ∷ says Kind.Eof (span 11 11) [] ∷ []))
+    -- `<a b></a ><!x>`: the name is not all of the tag's content, the end's white space does not count, a refusal ends the run where it stands
+    ∷ (example (60 ∷ 97 ∷ 32 ∷ 98 ∷ 62 ∷ 60 ∷ 47 ∷ 97 ∷ 32 ∷ 62 ∷ 60 ∷ 33 ∷ 120 ∷ 62 ∷ []) (settings true false false) 4
+    (says Kind.Start (span 1 4) (span 1 2 ∷ [])
+    ∷ says Kind.End (span 7 8) []
+    ∷ refuses 8 []
+    ∷ says Kind.Eof (span 10 10) [] ∷ []))
+    -- `6<`: nothing after the last `<`
+    ∷ (example (54 ∷ 60 ∷ []) (settings true false false) 4
+    (says Kind.Text (span 0 1) []
+    ∷ refuses 1 []
+    ∷ says Kind.Eof (span 1 1) [] ∷ []))
     -- `<a>&b&c;<d>` with room for one name: a refused reference, a reference, a refused Start; the name stays open
     ∷ (example (60 ∷ 97 ∷ 62 ∷ 38 ∷ 98 ∷ 38 ∷ 99 ∷ 59 ∷ 60 ∷ 100 ∷ 62 ∷ []) (settings true false false) 3
     (says Kind.Start (span 1 2) (span 1 2 ∷ [])

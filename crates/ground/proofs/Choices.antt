@@ -2,7 +2,7 @@
 -- Assumes nothing.
 use Prim.Native.Nat.{ℕ, _≤_, _<_}
 use mathlib.Core.Path.{_≡_, refl, sym, ap, _∙_}
-use mathlib.Core.Bool.{Bool, true, false}
+use mathlib.Core.Bool.{Bool, true, false, not}
 use native.Mathlib.Omega.{arith}
 use lib.Dec.{leb, ltb, eqb}
 use borrow.Author.Needs.{needs}
@@ -44,6 +44,19 @@ pub ruleset choices = (needs, pick-eq, pick-ne, pick-other, pick-le, pick-nle, p
 -- no test says both
 pub clash : {A : Type 0} (t : Bool) → t ≡ true → t ≡ false → A
 clash t e f = let z : _≡_ {A = ℕ} 0 1 = cc in absurd (omega arith)
+
+-- a test that must fail, and one turned round
+pub must-fail : (t : Bool) → (t ≡ true → ⊥) → t ≡ false
+must-fail true n = absurd (n refl)
+must-fail false n = refl
+
+pub not-true : (t : Bool) → not t ≡ true → t ≡ false
+not-true true e = clash false e refl
+not-true false e = refl
+
+pub not-false : (t : Bool) → not t ≡ false → t ≡ true
+not-false true e = refl
+not-false false e = clash true refl e
 
 -- two tests that both pass
 pub both : (t u : Bool) → pick t u false ≡ true → (t ≡ true) × (u ≡ true)

@@ -1,6 +1,6 @@
 -- A list from a position on, a byte further. Assumes nothing.
-use Prim.Native.Nat.{ℕ, suc, _+_, _-_, _≤_, _<_, max}
-use mathlib.Core.Path.{_≡_, sym, ap, _∙_}
+use Prim.Native.Nat.{ℕ, zero, suc, _+_, _-_, _≤_, _<_, max}
+use mathlib.Core.Path.{_≡_, refl, sym, ap, _∙_}
 use mathlib.Core.List.{List, [], _∷_, _++_}
 use native.Mathlib.Numerals.{add-one}
 use native.Mathlib.Omega.{arith}
@@ -38,6 +38,12 @@ take-next s from i h k =
     ∙ take-suc (drop from s) (i - from) 0 (omega (arith, length-drop from s))
     ∙ ap (λ (b : ℕ). take (i - from) (drop from s) ++ (b ∷ [])) (getD-drop from s (i - from) 0 ∙ ap (λ (n : ℕ). getD s n 0) back)
 
+take-take : (n m : ℕ) (l : List ℕ) → n ≤ m → take n (take m l) ≡ take n l
+take-take zero m l h = refl
+take-take (suc n) zero l h = absurd (omega arith)
+take-take (suc n) (suc m) [] h = refl
+take-take (suc n) (suc m) (b ∷ l) h = ap (λ (t : List ℕ). b ∷ t) (take-take n m l (omega arith))
+
 module _ (s : List ℕ) (from to : ℕ) where
   -- a span that lies in the slice
   pub part-in : from ≤ to → to ≤ length s → part s from to ≡ take (to - from) (drop from s)
@@ -63,3 +69,11 @@ module _ (s : List ℕ) (from to : ℕ) where
           | no k ↦ omega (arith, part-length (omega arith) (omega arith))
         ]
       ]
+
+-- the first n bytes of a span are a span of their own
+pub part-first : (s : List ℕ) (from to n : ℕ) → from ≤ to → to ≤ length s → n ≤ to - from → part s from (from + n) ≡ take n (part s from to)
+part-first s from to n h k l =
+    let e : from + n - from ≡ n = omega arith in
+    part-in s from (from + n) (omega arith) (omega arith)
+    ∙ ap (λ (i : ℕ). take i (drop from s)) e
+    ∙ sym (ap (take n) (part-in s from to h k) ∙ take-take n (to - from) (drop from s) l)

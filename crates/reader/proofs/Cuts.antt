@@ -56,9 +56,12 @@ Lands doc to Phase.InsideRef = getD doc to 0 ≡ amp
 Lands doc to Phase.InsideEmpty = ⊥
 Lands doc to Phase.Done = Unit {0}
 
--- a refusal's number that speaks neither of names, as 10 and 11 do, nor of a bad state, 17
+-- a number of a refusal that a call gives and that says nothing of names: neither 10, 11 nor 16, 17
 abbrev pub Plain : ℕ → Type 0
-Plain n = (n ≡ 10 → ⊥) × (n ≡ 11 → ⊥) × (n ≡ 17 → ⊥)
+Plain n = (n ≡ 10 → ⊥) × (n ≡ 11 → ⊥) × (n ≡ 16 → ⊥) × (n ≡ 17 → ⊥)
+
+abbrev pub PlainError : Error → Type 0
+PlainError e = Plain (numberedOf e .number)
 
 -- a span from `from` on, in the document
 pub record Lies (doc : List ℕ) (from : ℕ) (s : Span) : Type 0 where
@@ -75,7 +78,7 @@ pub record CutOff (doc : List ℕ) (from : ℕ) (p : Piece) : Type 0 where
 -- a refusal of what starts at `from`
 pub record Halted (doc : List ℕ) (from : ℕ) (x : Refusal) : Type 0 where
   pub lies : Lies doc from (x .piece)
-  pub plain : Plain (numberedOf (x .error) .number)
+  pub plain : PlainError (x .error)
 
 abbrev pub CutAt : List ℕ → ℕ → Cut → Type 0
 CutAt doc from (Cut.Piece p) = CutOff doc from p
@@ -93,25 +96,22 @@ phase-lands doc end among =
     other n (inl h) = absurd (n h)
     other n (inr (inl h)) = h
 
-unclosed-tag : (found : TagFound) → Plain (numberedOf (unclosedTag found) .number)
+unclosed-tag : (found : TagFound) → PlainError (unclosedTag found)
 unfolding unclosedTag
 unclosed-tag (TagFound.At end) = omega arith
 unclosed-tag (TagFound.Open ElementState.Outside) = omega arith
 unclosed-tag (TagFound.Open ElementState.SingleQ) = omega arith
 unclosed-tag (TagFound.Open ElementState.DoubleQ) = omega arith
 
-abbrev Fine : Error → Type 0
-Fine e = Plain (numberedOf e .number)
-
-unclosed-question : (doc : List ℕ) (from : ℕ) → Plain (numberedOf (unclosedQuestion doc (at from)) .number)
+unclosed-question : (doc : List ℕ) (from : ℕ) → PlainError (unclosedQuestion doc (at from))
 unfolding unclosedQuestion
 unclosed-question doc from =
-    pick-cases Fine (begins (drop from doc) (lt ∷ question ∷ xml)) _ _
-    (λ _. pick-cases Fine (leb (length doc) (from + 5)) _ _
+    pick-cases PlainError (begins (drop from doc) (lt ∷ question ∷ xml)) _ _
+    (λ _. pick-cases PlainError (leb (length doc) (from + 5)) _ _
     (λ _. omega arith)
-    (λ _. pick-cases Fine (eqb (getD doc (from + 5) 0) question) _ _
+    (λ _. pick-cases PlainError (eqb (getD doc (from + 5) 0) question) _ _
     (λ _. omega arith)
-    (λ _. pick-cases Fine (isWhite (getD doc (from + 5) 0)) _ _ (λ _. omega arith) (λ _. omega arith))))
+    (λ _. pick-cases PlainError (isWhite (getD doc (from + 5) 0)) _ _ (λ _. omega arith) (λ _. omega arith))))
     (λ _. omega arith)
 
 module _ (doc : List ℕ) (from : ℕ) where
@@ -122,7 +122,7 @@ module _ (doc : List ℕ) (from : ℕ) where
   unfolding whole
   whole-cut shape to next h k m l = record { lies = record { starts = refl; ends = h; within = k }; moves = m; lands = l }
 
-  stop-cut : (error : Error) (left : ℕ) → from ≤ left → left ≤ length doc → Plain (numberedOf error .number) → Here (stop error from left)
+  stop-cut : (error : Error) (left : ℕ) → from ≤ left → left ≤ length doc → PlainError error → Here (stop error from left)
   unfolding stop
   stop-cut error left h k p = record { lies = record { starts = refl; ends = h; within = k }; plain = p }
 
@@ -160,10 +160,10 @@ module _ (doc : List ℕ) (from : ℕ) where
     closed : (shape : Shape) (p : ℕ) → fewest shape ≤ 1 → (from ≤ p) × (p < length doc) → Here (whole shape from (p + 1) Phase.InsideText)
     closed shape p f t = whole-cut shape (p + 1) Phase.InsideText (omega (arith, t)) (omega (arith, t)) (omega (arith, t, f)) tt
 
-    unclosed : (error : Error) → Plain (numberedOf error .number) → Here (stop error from (length doc))
+    unclosed : (error : Error) → PlainError error → Here (stop error from (length doc))
     unclosed error p = stop-cut error (length doc) h (omega arith) p
 
-    kept : (error : Error) → Plain (numberedOf error .number) → Here (stop error from from)
+    kept : (error : Error) → PlainError error → Here (stop error from from)
     kept error p = stop-cut error from (omega arith) h p
 
     tag-cut : (shape : Shape) → fewest shape ≤ 1 → Here (cutTag doc from shape)
@@ -173,7 +173,7 @@ module _ (doc : List ℕ) (from : ℕ) where
         (λ p e. let t = found-has TagFound.At _ _ (element-gives doc from) (elementFound doc from) p refl e in closed shape p f (omega (arith, t)))
         (unclosed _ (unclosed-tag (elementFound doc from)))
 
-    marked-cut : (found : MarksFound) (shape : Shape) (error : Error) → fewest shape ≤ 1 → Plain (numberedOf error .number)
+    marked-cut : (found : MarksFound) (shape : Shape) (error : Error) → fewest shape ≤ 1 → PlainError error
         → ((p : ℕ) → found ≡ MarksFound.At p → (from ≤ p) × (p < length doc)) → Here (cutMarked doc from found shape error)
     unfolding cutMarked
     marked-cut found shape error f q w = marks-cases Here found _ _ (λ p e. closed shape p f (w p e)) (unclosed error q)

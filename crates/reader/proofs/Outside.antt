@@ -10,7 +10,7 @@ use lib.Dec.{eqb, leb, ltb}
 use borrow.Author.Tests.{eq-eqb, eqb-true, eqb-false, ltb-true, lt-ltb}
 use Rattle.ground.specs.Equal.{begins, same}
 use Rattle.ground.specs.Part.{part}
-use Rattle.ground.proofs.Choices.{pick-cases, clash, both}
+use Rattle.ground.proofs.Choices.{pick-cases, clash, both, not-true, not-false}
 use Rattle.ground.proofs.Equal.{begins-long, same-is}
 use Rattle.ground.proofs.Lists.{part-end}
 use Rattle.white.specs.White.{isWhite, notWhite, nameLen}
@@ -33,7 +33,8 @@ use Rattle.state.specs.Place.{at, span, size, names, inner}
 use Rattle.state.specs.Limits.{capacity}
 use Rattle.state.specs.Values.{kindNumber, numberedOf, valuesOf}
 use Rattle.state.specs.Make.{event, moved, withDepth, told, ended, refused, stopped}
-use Rattle.state.proofs.Spans.{inner-within}
+use Rattle.state.proofs.Numbers.{no-number}
+use Rattle.state.proofs.Spans.{inner-lies}
 use Rattle.emit.specs.Text.{textContent, emitText, emitLastText}
 use Rattle.emit.specs.Reference.{emitRef, emitDangling}
 use Rattle.emit.specs.Bang.{commentOpener, cdataOpener, bangEvent, checkedComment, emitComment, emitCData}
@@ -46,12 +47,12 @@ use Rattle.reader.specs.declared.piece.Cut.{Cut}
 use Rattle.reader.specs.Names.{latest, nameOf, bytes}
 use Rattle.reader.specs.Sound.{inPlaceIn, inPlace, sound}
 use Rattle.reader.specs.Step.{emittedAs, emitted, checked, taken, skipped, stepText, bom, begin, stepIn, stepPhase, step}
-use Rattle.reader.proofs.Cuts.{fewest, Lands, Plain, Lies, CutOff, CutAt, next-cut, markup-cut, ref-cut}
+use Rattle.reader.proofs.Cuts.{fewest, Lands, Plain, PlainError, Lies, CutOff, CutAt, next-cut, markup-cut, ref-cut}
 use Rattle.reader.proofs.States.{sound-true, ref-at}
 
 -- ---- what there is to see
 
--- a number that falls with each call until the reader is done: more than the calls that are left before
+-- a bound on the calls until the reader is done, which falls with each call
 abbrev pub rankAt : List ℕ → ℕ → Phase → ℕ
 rankAt doc position Phase.Init = length doc + 1
 rankAt doc position Phase.InsideText = length doc - position + 1
@@ -67,17 +68,23 @@ rank doc r = rankAt doc (r .position .0) (r .phase)
 abbrev pub Quiet : Answer → Type 0
 Quiet a = (valuesOf a .kind ≡ kindNumber Kind.Start → ⊥) × (valuesOf a .kind ≡ kindNumber Kind.End → ⊥) × Plain (valuesOf a .number)
 
+-- what a Start tells of its tag
+pub record Tagged (doc : List ℕ) (s : Step) : Type 0 where
+  pub ordered : valuesOf (s .answer) .content .from ≤ valuesOf (s .answer) .content .to
+  pub within : valuesOf (s .answer) .content .to ≤ s .reader .position .0
+  pub named : valuesOf (s .answer) .name ≡ nameLen (bytes doc (valuesOf (s .answer) .content))
+  pub expands : slashed doc (valuesOf (s .answer) .piece) ≡ true → s .reader .phase ≡ Phase.InsideEmpty
+
 -- what a call does to the names, of which there is room for `cap`, and of which `last` is the latest
 pub data Named (doc : List ℕ) (cap : ℕ) (last : Span) (r : Reader) (s : Step) : Type 0 where
   keeps : Quiet (s .answer) → s .reader .depth .0 ≡ r .depth .0 → Named doc cap last r s
-  opens : valuesOf (s .answer) .kind ≡ kindNumber Kind.Start → r .depth .0 < cap → s .reader .depth .0 ≡ r .depth .0 + 1
-      → nameOf (s .answer) .to ≤ s .reader .position .0 → Named doc cap last r s
+  opens : valuesOf (s .answer) .kind ≡ kindNumber Kind.Start → r .depth .0 < cap → s .reader .depth .0 ≡ r .depth .0 + 1 → Tagged doc s → Named doc cap last r s
   closes : valuesOf (s .answer) .kind ≡ kindNumber Kind.End → 0 < r .depth .0 → s .reader .depth .0 ≡ r .depth .0 - 1
       → (r .settings .«check_end_names» ≡ true → bytes doc (valuesOf (s .answer) .content) ≡ bytes doc last) → Named doc cap last r s
   mismatches : valuesOf (s .answer) .number ≡ 10 → 0 < r .depth .0 → s .reader .depth .0 ≡ r .depth .0 - 1 → r .settings .«check_end_names» ≡ true
       → valuesOf (s .answer) .expected ≡ last → (bytes doc (valuesOf (s .answer) .found) ≡ bytes doc last → ⊥) → Named doc cap last r s
   strays : valuesOf (s .answer) .kind ≡ kindNumber Kind.End → r .depth .0 ≡ 0 → s .reader .depth .0 ≡ 0 → r .settings .«allow_unmatched_ends» ≡ true → Named doc cap last r s
-  refuses : valuesOf (s .answer) .number ≡ 11 → r .depth .0 ≡ 0 → s .reader .depth .0 ≡ 0 → r .settings .«allow_unmatched_ends» ≡ false → Named doc cap last r s
+  unmatches : valuesOf (s .answer) .number ≡ 11 → r .depth .0 ≡ 0 → s .reader .depth .0 ≡ 0 → r .settings .«allow_unmatched_ends» ≡ false → Named doc cap last r s
 
 pub record Turned (doc : List ℕ) (cap : ℕ) (last : Span) (r : Reader) (s : Step) : Type 0 where
   pub size : s .reader .length ≡ r .length
@@ -90,33 +97,32 @@ pub record Turned (doc : List ℕ) (cap : ℕ) (last : Span) (r : Reader) (s : S
   pub in-place : inPlace doc (s .reader) ≡ true
   pub falls : rank doc (s .reader) ≤ rank doc r - 1
   pub over : valuesOf (s .answer) .kind ≡ kindNumber Kind.Eof → s .reader .phase ≡ Phase.Done
-  pub no-bad : valuesOf (s .answer) .number ≡ 17 → ⊥
   pub names : Named doc cap last r s
 
 -- ---- the two ways to answer
 
 -- a piece that starts after what was read and ends in the document
-pub record Fits (doc : List ℕ) (r : Reader) (piece : Span) : Type 0 where
+record Fits (doc : List ℕ) (r : Reader) (piece : Span) : Type 0 where
   pub after : r .position .0 ≤ piece .from
   pub ordered : piece .from ≤ piece .to
   pub within : piece .to ≤ length doc
 
 -- one with bytes, where the reader is not done
-pub record Some (doc : List ℕ) (r : Reader) (piece : Span) : Type 0 where
-  pub bytes : piece .from < piece .to
+record Some (doc : List ℕ) (r : Reader) (piece : Span) : Type 0 where
+  pub has : piece .from < piece .to
   pub near : length doc - piece .from + 1 ≤ rank doc r
 
 -- a kind of event that says nothing of names, and is not Eof
 abbrev Silent : Kind → Type 0
 Silent k = (kindNumber k ≡ kindNumber Kind.Start → ⊥) × (kindNumber k ≡ kindNumber Kind.End → ⊥) × (kindNumber k ≡ kindNumber Kind.Eof → ⊥)
 
--- another depth at most
-pub record Like (r b : Reader) : Type 0 where
+-- the same reader but for phase, position and depth
+record Like (r b : Reader) : Type 0 where
   pub size : b .length ≡ r .length
   pub settings : b .settings ≡ r .settings
 
 -- a phase in which b may go on at `to`
-pub record Next (doc : List ℕ) (r b : Reader) (to : ℕ) (next : Phase) : Type 0 where
+record Next (doc : List ℕ) (r b : Reader) (to : ℕ) (next : Phase) : Type 0 where
   pub in-place : inPlaceIn doc (moved b next to) next ≡ true
   pub falls : rankAt doc to next ≤ rank doc r - 1
 
@@ -124,14 +130,6 @@ like-itself : (r : Reader) → Like r r
 like-itself r = record { size = refl; settings = refl }
 
 -- ---- names
-
-not-false : (t : Bool) → not t ≡ false → t ≡ true
-not-false true e = refl
-not-false false e = clash true refl e
-
-not-true : (t : Bool) → not t ≡ true → t ≡ false
-not-true true e = clash false e refl
-not-true false e = refl
 
 module _ (doc : List ℕ) (c : Config) (last name : Span) where
   agrees : differs doc c last name ≡ false → c .«check_end_names» ≡ true → bytes doc name ≡ bytes doc last
@@ -143,14 +141,6 @@ module _ (doc : List ℕ) (c : Config) (last name : Span) where
   disagrees e =
       let t = both _ _ e in
       (t .0, λ q. clash _ (same-is (bytes doc last) (bytes doc name) .1 (sym q)) (not-true _ (t .1)))
-
--- a tag's name ends in its piece
-name-within : (doc : List ℕ) (piece : Span) (front back : ℕ) → piece .from ≤ piece .to
-    → inner piece front back .from + nameLen (bytes doc (inner piece front back)) ≤ piece .to
-name-within doc piece front back h =
-    let c = inner piece front back in
-    let i = inner-within piece front back in
-    omega (arith, i, part-end doc (c .from) (c .to), until-within isWhite (bytes doc c))
 
 -- one that ends in `/>` has three bytes at least
 slashed-long : (doc : List ℕ) (piece : Span) → slashed doc piece ≡ true → piece .from + 2 < piece .to
@@ -186,15 +176,13 @@ module _ (doc : List ℕ) (cap : ℕ) (last : Span) (r : Reader) (piece : Span) 
         in-place = n .in-place;
         falls = n .falls;
         over = o;
-        no-bad = λ e. omega arith;
         names = k;
       }
 
   refused-turn : (b : Reader) (error : Error) (place : Position) (next : Phase) → Like r b → Next doc r b (piece .to) next
-      → (numberedOf error .number ≡ 17 → ⊥)
       → Names (refused b error place piece next) → Turn (refused b error place piece next)
   unfolding refused moved inPlace
-  refused-turn b error place next l n o k =
+  refused-turn b error place next l n k =
       record {
         size = l .size;
         settings = l .settings;
@@ -205,7 +193,6 @@ module _ (doc : List ℕ) (cap : ℕ) (last : Span) (r : Reader) (piece : Span) 
         in-place = n .in-place;
         falls = n .falls;
         over = λ e. absurd (omega arith);
-        no-bad = o;
         names = k;
       }
 
@@ -235,13 +222,13 @@ module _ (doc : List ℕ) (cap : ℕ) (last : Span) (r : Reader) (piece : Span) 
   told-quiet kind content name next n q =
       told-turn r kind content name next (like-itself r) n (λ e. absurd (q .2 e)) (keeps (q .0, q .1, omega arith) refl)
 
-  refused-quiet : (error : Error) (place : Position) (next : Phase) → Next doc r r (piece .to) next → Plain (numberedOf error .number)
+  refused-quiet : (error : Error) (place : Position) (next : Phase) → Next doc r r (piece .to) next → PlainError error
       → Turn (refused r error place piece next)
   unfolding refused moved
   refused-quiet error place next n p =
-      refused-turn r error place next (like-itself r) n (p .2) (keeps (λ e. omega arith, λ e. omega arith, p) refl)
+      refused-turn r error place next (like-itself r) n (keeps (λ e. omega arith, λ e. omega arith, p) refl)
 
-  stopped-quiet : (error : Error) (place : Position) → Plain (numberedOf error .number) → Turn (stopped r error place piece)
+  stopped-quiet : (error : Error) (place : Position) → PlainError error → Turn (stopped r error place piece)
   unfolding stopped
   stopped-quiet error place p = refused-quiet error place Phase.Done (to-done r) p
 
@@ -326,7 +313,7 @@ module _ (doc : List ℕ) (cap : ℕ) (last : Span) (r : Reader) (piece : Span) 
       unmatched-turn z =
           pick-cases Turn (r .settings .«allow_unmatched_ends») _ _
           (λ on. stray-turn z on)
-          (λ off. refused-turn r (Error.UnmatchedEndTag name) _ Phase.InsideText (like-itself r) (to-text some r) (λ e. omega arith) (refuses refl z z off))
+          (λ off. refused-turn r (Error.UnmatchedEndTag name) _ Phase.InsideText (like-itself r) (to-text some r) (unmatches refl z z off))
 
       -- b has one name fewer
       module _ (z : 0 < r .depth .0) (b : Reader) (l : Like r b) (d : b .depth .0 ≡ r .depth .0 - 1) where
@@ -340,7 +327,7 @@ module _ (doc : List ℕ) (cap : ℕ) (last : Span) (r : Reader) (piece : Span) 
             let on = ap (λ (c : Config). c .«check_end_names») (l .settings) in
             pick-cases Turn (differs doc (b .settings) last name) _ _
             (λ e. let x = disagrees doc (b .settings) last name e in
-            refused-turn _ (Error.MismatchedEndTag last name) _ Phase.InsideText l (to-text some _) (λ e. omega arith)
+            refused-turn _ (Error.MismatchedEndTag last name) _ Phase.InsideText l (to-text some _)
             (mismatches refl z d (sym on ∙ x .0) refl (x .1)))
             (λ e. end-turn (λ h. agrees doc (b .settings) last name e (on ∙ h)))
 
@@ -361,12 +348,13 @@ module _ (doc : List ℕ) (cap : ℕ) (last : Span) (r : Reader) (piece : Span) 
     -- where there is no room for the name
     module _ (full : Turn (stopped r Error.NameStackFull (at (piece .from)) (span (piece .from) (piece .from)))) where
       module _ (content : Span) (next : Phase) (n : (b : Reader) → b .depth .0 ≡ r .depth .0 + 1 → Next doc r b (piece .to) next)
-          (w : content .from + nameLen (bytes doc content) ≤ piece .to) where
+          (o : content .from ≤ content .to) (w : content .to ≤ piece .to) (x : slashed doc piece ≡ true → next ≡ Phase.InsideEmpty) where
         -- b has one name more
         added-turn : (b : Reader) → Like r b → b .depth .0 ≡ r .depth .0 + 1 → r .depth .0 < cap
             → Turn (told b (event Kind.Start piece content (nameLen (bytes doc content))) next)
         unfolding told moved
-        added-turn b l d room = told-turn b Kind.Start content _ next l (n b d) (λ e. absurd (omega arith)) (opens refl room d w)
+        added-turn b l d room =
+            told-turn b Kind.Start content _ next l (n b d) (λ e. absurd (omega arith)) (opens refl room d (record { ordered = o; within = w; named = refl; expands = x }))
 
         opened-turn : Turn (opened r (names cap) (tag doc Kind.Start piece content) next)
         unfolding opened tag withDepth
@@ -380,9 +368,11 @@ module _ (doc : List ℕ) (cap : ℕ) (last : Span) (r : Reader) (piece : Span) 
       start-turn =
           pick-cases Turn (slashed doc piece) _ _
           (λ e. pick-cases Turn (r .settings .«expand_empty_elements») _ _
-          (λ _. opened-turn _ Phase.InsideEmpty (λ b d. to-empty b d (slashed-long doc piece e)) (name-within doc piece 1 2 (f .ordered)))
+          (λ _. let i = inner-lies piece 1 2 (f .ordered) in
+          opened-turn _ Phase.InsideEmpty (λ b d. to-empty b d (slashed-long doc piece e)) (i .0) (i .1) (λ _. refl))
           (λ _. plain-turn Kind.Empty _ _ (omega arith)))
-          (λ _. opened-turn _ Phase.InsideText (λ b d. to-text some b) (name-within doc piece 1 1 (f .ordered)))
+          (λ e. let i = inner-lies piece 1 1 (f .ordered) in
+          opened-turn _ Phase.InsideText (λ b d. to-text some b) (i .0) (i .1) (λ t. clash _ t e))
 
 -- ---- the call
 
@@ -400,7 +390,7 @@ begin-within doc =
     (λ _. omega arith)
 
 -- a place where the call may cut its piece off
-pub record From (doc : List ℕ) (r : Reader) (from : ℕ) : Type 0 where
+record From (doc : List ℕ) (r : Reader) (from : ℕ) : Type 0 where
   pub after : r .position .0 ≤ from
   pub within : from ≤ length doc
   pub near : length doc - from + 1 ≤ rank doc r
@@ -421,7 +411,7 @@ module _ (doc : List ℕ) (cap : ℕ) (last : Span) (r : Reader) where
 
   module _ (piece : Span) (f : Fits doc r piece) (near : length doc - piece .from + 1 ≤ rank doc r) where
     some : piece .from + 1 ≤ piece .to → Some doc r piece
-    some m = record { bytes = omega arith; near = near }
+    some m = record { has = omega arith; near = near }
 
     emitted-turn : (shape : Shape) (next : Phase) → piece .from + fewest shape ≤ piece .to → Lands doc (piece .to) next
         → Turns (emittedAs doc r last (names cap) shape piece next)
@@ -503,3 +493,25 @@ pub step-turn : (doc stack : List ℕ) (r : Reader) → sound doc stack r ≡ tr
     → Turned doc (capacity (length stack)) (latest stack (r .depth .0)) r (step doc stack r)
 unfolding step stepPhase
 step-turn doc stack r e = let s = sound-true doc stack r e in rw e (phase-turn doc _ _ r (s .in-doc) (s .in-place) (r .phase) refl)
+
+-- ---- what follows
+
+-- 16 and 17 are no answers of a call on a sound state
+pub call-numbers : (doc : List ℕ) (cap : ℕ) (last : Span) (r : Reader) (s : Step) → Named doc cap last r s
+    → (valuesOf (s .answer) .number ≡ 16 → ⊥) × (valuesOf (s .answer) .number ≡ 17 → ⊥)
+call-numbers doc cap last r s (keeps q d) = (q .2 .2, q .2 .3)
+call-numbers doc cap last r s (opens k room d tag) = let z = no-number (s .answer) (omega arith) in (λ e. omega arith, λ e. omega arith)
+call-numbers doc cap last r s (closes k z d same) = let z = no-number (s .answer) (omega arith) in (λ e. omega arith, λ e. omega arith)
+call-numbers doc cap last r s (mismatches n z d on x y) = (λ e. omega arith, λ e. omega arith)
+call-numbers doc cap last r s (strays k z d on) = let z = no-number (s .answer) (omega arith) in (λ e. omega arith, λ e. omega arith)
+call-numbers doc cap last r s (unmatches n z d off) = (λ e. omega arith, λ e. omega arith)
+
+-- the name of a Start is the first bytes of its content, and ends where the reader stands then, or before
+module _ (doc : List ℕ) (s : Step) (t : Tagged doc s) where
+  pub name-fits : valuesOf (s .answer) .name ≤ valuesOf (s .answer) .content .to - valuesOf (s .answer) .content .from
+  name-fits =
+      let c = valuesOf (s .answer) .content in
+      omega (arith, t .ordered, t .named, part-end doc (c .from) (c .to), until-within isWhite (bytes doc c))
+
+  pub name-within : nameOf (s .answer) .to ≤ s .reader .position .0
+  name-within = omega (arith, t .ordered, t .within, name-fits)

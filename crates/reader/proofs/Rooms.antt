@@ -14,18 +14,18 @@ use Rattle.state.proofs.Room.{capacity-slots}
 use Rattle.reader.specs.Names.{latest, Room}
 use Rattle.reader.specs.Sound.{sound}
 use Rattle.reader.specs.Step.{step}
-use Rattle.reader.proofs.Outside.{Turned, Named, keeps, opens, closes, mismatches, strays, refuses, step-turn}
+use Rattle.reader.proofs.Outside.{Turned, Named, keeps, opens, closes, mismatches, strays, unmatches, name-within, step-turn}
 use Rattle.reader.proofs.States.{Sound, sound-true}
 
 module _ (doc stack : List ℕ) (r : Reader) (sd : Sound doc stack r) (s : Step) (t : Turned doc (capacity (length stack)) (latest stack (r .depth .0)) r s) where
   named-room : Named doc (capacity (length stack)) (latest stack (r .depth .0)) r s → Room (length stack) (r .depth .0) (s .answer)
   named-room (keeps q d) = record { room = λ e. absurd (q .0 e) }
-  named-room (opens k room d w) =
-      record { room = λ e. (omega (arith, capacity-slots (length stack) (r .depth .0 + 1) (omega arith)), omega (arith, sd .short, t .left, t .within)) }
+  named-room (opens k room d tag) =
+      record { room = λ e. (omega (arith, capacity-slots (length stack) (r .depth .0 + 1) (omega arith)), omega (arith, sd .short, t .left, t .within, name-within doc s tag)) }
   named-room (closes k z d same) = record { room = λ e. absurd (omega arith) }
   named-room (mismatches n z d on x y) = record { room = λ e. let z = no-kind (s .answer) (omega arith) in absurd (omega arith) }
   named-room (strays k z d on) = record { room = λ e. absurd (omega arith) }
-  named-room (refuses n z d off) = record { room = λ e. let z = no-kind (s .answer) (omega arith) in absurd (omega arith) }
+  named-room (unmatches n z d off) = record { room = λ e. let z = no-kind (s .answer) (omega arith) in absurd (omega arith) }
 
 pub bad-step : (doc stack : List ℕ) (r : Reader) → sound doc stack r ≡ false → step doc stack r ≡ badState r
 unfolding step

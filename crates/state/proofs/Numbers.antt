@@ -39,12 +39,11 @@ error-range Error.NameStackFull = omega arith
 error-range Error.SliceTooLong = omega arith
 error-range Error.BadState = omega arith
 
--- THEOREM
 pub answer-range : (a : Answer)
-    → (((1 ≤ valuesOf a .kind) × (valuesOf a .kind ≤ 10)) × (valuesOf a .number ≡ 0))
-    ⊎ ((valuesOf a .kind ≡ 0) × ((1 ≤ valuesOf a .number) × (valuesOf a .number ≤ 17)))
-answer-range (Answer.Event e) = inl (kind-range (e .kind), refl)
-answer-range (Answer.Refused x) = inr (refl, error-range (x .error))
+    → ((1 ≤ valuesOf a .kind) × (valuesOf a .kind ≤ 10) × (valuesOf a .number ≡ 0))
+    ⊎ ((valuesOf a .kind ≡ 0) × (1 ≤ valuesOf a .number) × (valuesOf a .number ≤ 17))
+answer-range (Answer.Event e) = let k = kind-range (e .kind) in inl (k .0, k .1, refl)
+answer-range (Answer.Refused x) = let n = error-range (x .error) in inr (refl, n .0, n .1)
 
 -- so none is both
 pub no-number : (a : Answer) → 0 < valuesOf a .kind → valuesOf a .number ≡ 0

@@ -19,11 +19,11 @@ module _ (s : Span) (front back : ℕ) where
   unfolding inner
   inner-some h = rw (le-leb (s .from + front + back) (s .to) h)
 
-  -- it lies where the span does
-  pub inner-within : (inner s front back .from ≤ max (s .from) (s .to)) × (inner s front back .to ≤ max (s .from) (s .to))
+  -- it lies in the span
+  pub inner-lies : s .from ≤ s .to → (inner s front back .from ≤ inner s front back .to) × (inner s front back .to ≤ s .to)
   unfolding inner
-  inner-within =
-      pick-cases (λ (x : Span). (x .from ≤ max (s .from) (s .to)) × (x .to ≤ max (s .from) (s .to))) (leb (s .from + front + back) (s .to)) _ _
+  inner-lies h =
+      pick-cases (λ (x : Span). (x .from ≤ x .to) × (x .to ≤ s .to)) (leb (s .from + front + back) (s .to)) _ _
       (λ e. omega (arith, leb-true (s .from + front + back) (s .to) e))
       (λ _. omega arith)
 

@@ -1,6 +1,6 @@
 -- What a caller knows of the counts, from the promise and the demands alone. Assumes nothing.
 use Prim.Native.Nat.{ℕ, zero, suc, _+_, _≤_}
-use mathlib.Core.Path.{_≡_, refl, ap, _∙_}
+use mathlib.Core.Path.{_≡_, refl, sym, ap, _∙_}
 use mathlib.Core.List.{List}
 use mathlib.Core.Bool.{Bool, true, false}
 use native.Mathlib.Nat.{zero-add, suc-add}
@@ -11,14 +11,18 @@ use Rattle.ground.specs.Choose.{pick}
 use Rattle.state.specs.declared.config.Config.{Config}
 use Rattle.state.specs.declared.answer.Kind.{Kind}
 use Rattle.state.specs.declared.answer.Answer.{Answer}
+use Rattle.state.specs.declared.run.Made.{Made}
 use Rattle.state.specs.Limits.{longest}
+use Rattle.state.specs.Make.{made}
 use Rattle.state.specs.Values.{kindNumber, valuesOf}
 use Rattle.state.proofs.Numbers.{no-number}
 use Rattle.demands.specs.Run.{World, said, call, run, AtRest}
 use Rattle.demands.specs.Answers.{isStart, isEnd, isEof, isMismatch, count}
-use Rattle.demands.proofs.Demand1.{eof-by-length-and-two, eof-stays}
+use Rattle.demands.proofs.Demand1.{a-reader-made-is-a-run's, eof-by-length-and-two, eof-stays}
 use Rattle.demands.proofs.Demand3.{starts-are-ends-mismatches-and-open, as-many-as-the-depth}
-use Rattle.tally.specs.Tally.{budget, counts, whole}
+use Rattle.tally.specs.declared.Counts.{Counts}
+use Rattle.tally.specs.declared.Tallied.{Tallied}
+use Rattle.tally.specs.Tally.{budget, counts, whole, talliedAs, tallied}
 
 -- an Eof is none of the answers that are counted
 module _ (a : Answer) (e : isEof a ≡ true) where
@@ -34,14 +38,26 @@ module _ (a : Answer) (e : isEof a ≡ true) where
   no-mismatch : isMismatch a ≡ false
   no-mismatch = let n = no-number a (omega (arith, is-eof)) in ne-eqb (valuesOf a .number) 10 (λ k. omega arith)
 
-module _ (doc stack : List ℕ) (c : Config) (short : length doc ≤ longest) where
-  -- THEOREM: where unmatched ends are refused, every opening is closed, mismatched or still open
-  pub every-opening-is-accounted-for : c .«allow_unmatched_ends» ≡ false
-      → counts (whole doc stack c) .openings ≡ counts (whole doc stack c) .closings + counts (whole doc stack c) .mismatches + counts (whole doc stack c) .depth .0
-  every-opening-is-accounted-for off =
-      let n = length doc + 2 in
-      omega (arith, starts-are-ends-mismatches-and-open doc stack c short off n, as-many-as-the-depth doc stack c short n)
+-- what is counted is counted of a run over a document within the limit
+module _ (doc stack : List ℕ) (c : Config) where
+  counted : (m : Made) → m ≡ made (length doc) c → (x : Counts) → talliedAs doc stack c m ≡ Tallied.Counted x → (length doc ≤ longest) × (counts (whole doc stack c) ≡ x)
+  counted (Made.Fresh r) e x h = (a-reader-made-is-a-run's doc stack c r (sym e) .0, cc)
+  counted (Made.Refused y) e x h = let z : _≡_ {A = ℕ} 0 1 = cc in absurd (omega arith)
 
+  -- THEOREM: of what `tally` counts, where unmatched ends are refused: every opening is closed, mismatched or still open
+  pub every-opening-is-accounted-for : (x : Counts) → tallied doc stack c ≡ Tallied.Counted x → c .«allow_unmatched_ends» ≡ false
+      → x .openings ≡ x .closings + x .mismatches + x .depth .0
+  unfolding tallied
+  every-opening-is-accounted-for x h off =
+      let w = counted (made (length doc) c) refl x h in
+      rw (← w .1)
+      (omega (
+        arith,
+        starts-are-ends-mismatches-and-open doc stack c (w .0) off (length doc + 2),
+        as-many-as-the-depth doc stack c (w .0) (length doc + 2),
+      ))
+
+module _ (doc stack : List ℕ) (c : Config) (short : length doc ≤ longest) where
   abbrev later : ℕ → World
   later k = run doc stack c (k + budget doc)
 

@@ -26,9 +26,10 @@ use Rattle.state.specs.Make.{fresh, made}
 use Rattle.reader.specs.Names.{written}
 use Rattle.reader.specs.Step.{step, Stepped}
 use Rattle.demands.specs.Run.{said, call, run}
+use Rattle.demands.proofs.Demand1.{a-reader-made-is-a-run's}
 use Rattle.demands.specs.Answers.{isStart, isEnd, isMismatch, count}
 use Rattle.tally.specs.declared.Tallied.{Tallied}
-use Rattle.tally.specs.Tally.{budget, tallied, leftStack, Read}
+use Rattle.tally.specs.Tally.{budget, tallied, leftStack, Summed}
 
 -- ---- how many of some answers
 
@@ -97,18 +98,15 @@ going-on doc stack₀ stack after c r s v i starts ends wrongs start end x y z e
 
 -- ---- a reader is made, or none
 
-made-fresh : (n : ℕ) (c : Config) (r : Reader) → made n c ≡ Made.Fresh r → r ≡ fresh n c
-unfolding made
-made-fresh n c r = pick-cases (λ (m : Made). m ≡ Made.Fresh r → r ≡ fresh n c) (ltb longest n) (Made.Refused _) (Made.Fresh (fresh n c)) (λ e h. cc) (λ e h. cc)
-
 module _ (doc stack : List ℕ) (c : Config) (m : Made) (e : m ≡ made (length doc) c) where
-  pub read-none : (x : Refusal) → m ≡ Made.Refused x → Read doc stack c (Tallied.Refused x) stack
+  pub summed-none : (x : Refusal) → m ≡ Made.Refused x → Summed doc stack c (Tallied.Refused x) stack
   unfolding tallied leftStack
-  read-none x h = let f : made (length doc) c ≡ Made.Refused x = sym e ∙ h in record { outcome = rw f; slots = rw f }
+  summed-none x h = let f : made (length doc) c ≡ Made.Refused x = sym e ∙ h in record { outcome = rw f; slots = rw f }
 
   module _ (first : Reader) (h : m ≡ Made.Fresh first) where
     is-fresh : first ≡ fresh (length doc) c
-    is-fresh = made-fresh (length doc) c first (sym e ∙ h)
+    unfolding run
+    is-fresh = a-reader-made-is-a-run's doc stack c first (sym e ∙ h) .1
 
     -- before the first call
     pub going-first : Going doc stack (first .settings) 0 stack first 0 0 0
@@ -123,17 +121,17 @@ module _ (doc stack : List ℕ) (c : Config) (m : Made) (e : m ≡ made (length 
         }
 
     -- after the last
-    pub read-whole : (i : ℕ) (after : List ℕ) (r : Reader) (starts ends wrongs : ℕ)
+    pub summed-whole : (i : ℕ) (after : List ℕ) (r : Reader) (starts ends wrongs : ℕ)
         → Going doc stack (first .settings) i after r starts ends wrongs
         → i ≤ budget doc
         → budget doc ≤ i
-        → Read doc stack c (Tallied.Counted record { openings = starts; closings = ends; mismatches = wrongs; depth = r .depth }) after
+        → Summed doc stack c (Tallied.Counted record { openings = starts; closings = ends; mismatches = wrongs; depth = r .depth }) after
     unfolding tallied leftStack fresh
-    read-whole i after r starts ends wrongs g low high =
+    summed-whole i after r starts ends wrongs g low high =
         let f : made (length doc) c ≡ Made.Fresh first = sym e ∙ h in
         let n : i ≡ budget doc = omega arith in
         let k : first .settings ≡ c = ap (λ (t : Reader). t .settings) is-fresh in
         let t = rw (k, n) at g in
         record { outcome = rw f (cc); slots = rw f (t .slots) }
 
-pub ruleset call-turns = (needs, count-fits, going-on, read-none, going-first, read-whole)
+pub ruleset call-turns = (needs, count-fits, going-on, summed-none, going-first, summed-whole)

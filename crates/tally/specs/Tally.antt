@@ -48,6 +48,6 @@ module _ (doc stack : List ℕ) (c : Config) where
   leftStack = leftAs (made (length doc) c)
 
 -- THE PROMISE: the answer, and every slot of the stack
-pub record Read (doc stack : List ℕ) (c : Config) (t : Tallied) (after : List ℕ) : Type 0 where
+pub record Summed (doc stack : List ℕ) (c : Config) (t : Tallied) (after : List ℕ) : Type 0 where
   pub outcome : t ≡ tallied doc stack c
   pub slots : after ≡ leftStack doc stack c

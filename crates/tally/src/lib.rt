@@ -9,7 +9,7 @@ use state::run::Reader;
 ghost use mathlib.Core.Path.{_≡_};
 ghost use lib.Dec.{eqb};
 ghost use Rattle.ground.specs.Choose.{pick};
-ghost use Rattle.tally.specs.Tally.{Read};
+ghost use Rattle.tally.specs.Tally.{Summed};
 
 // What the calls answered, and what they left open.
 pub struct Counts {
@@ -41,7 +41,7 @@ fn one(a: usize, b: usize) -> usize
 
 // Makes as many calls as the document has bytes and two more: end of file comes with the last of them or before. The stack is lent to each.
 pub fn tally(document: &[u8], stack: &mut [usize], settings: Config) -> Tallied
-    ensures { λ t. ⌜ Read (now (document .entry)) (now (stack .entry)) settings t (now (stack .exit)) ⌝ }
+    ensures { λ t. ⌜ Summed (now (document .entry)) (now (stack .entry)) settings t (now (stack .exit)) ⌝ }
 {
     match Reader::new(document, settings) {
         Made::Refused(refusal) => Tallied::Refused(refusal),
