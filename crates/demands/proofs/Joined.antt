@@ -1,11 +1,10 @@
 -- From the code to the theorems: what meets the promise of a call is the next call of a run. Assumes nothing.
 use Prim.Native.Nat.{ℕ}
-use mathlib.Core.Path.{_≡_, ap}
+use mathlib.Core.Path.{_≡_}
 use mathlib.Core.List.{List, _∷_}
 use Rattle.state.specs.declared.answer.Answer.{Answer}
 use Rattle.state.specs.declared.run.Reader.{Reader}
-use Rattle.reader.specs.Names.{written}
-use Rattle.reader.specs.Step.{step, Stepped}
+use Rattle.reader.specs.Step.{Stepped}
 use Rattle.state.specs.declared.run.Step.{Step}
 use Rattle.demands.specs.Run.{World, call}
 

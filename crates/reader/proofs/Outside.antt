@@ -3,7 +3,7 @@
 use Prim.Native.Nat.{ℕ, _+_, _-_, _≤_, _<_}
 use mathlib.Core.Path.{_≡_, refl, sym, ap, _∙_}
 use mathlib.Core.List.{List}
-use mathlib.Core.Bool.{Bool, true, false, not}
+use mathlib.Core.Bool.{true, false}
 use native.Mathlib.Omega.{arith}
 use lib.ListN.{length, drop}
 use lib.Dec.{eqb, leb, ltb}
@@ -31,7 +31,7 @@ use Rattle.state.specs.declared.run.Reader.{Reader}
 use Rattle.state.specs.declared.run.Step.{Step}
 use Rattle.state.specs.Place.{at, span, size, names, inner}
 use Rattle.state.specs.Limits.{capacity}
-use Rattle.state.specs.Values.{kindNumber, numberedOf, valuesOf}
+use Rattle.state.specs.Values.{kindNumber, valuesOf}
 use Rattle.state.specs.Make.{event, moved, withDepth, told, ended, refused, stopped}
 use Rattle.state.proofs.Numbers.{no-number}
 use Rattle.state.proofs.Spans.{inner-lies}

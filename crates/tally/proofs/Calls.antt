@@ -6,7 +6,7 @@ use mathlib.Core.Path.{_≡_, refl, sym, ap, _∙_}
 use mathlib.Core.Bool.{Bool}
 use mathlib.Core.List.{List}
 use lib.ListN.{length}
-use lib.Dec.{eqb, ltb}
+use lib.Dec.{eqb}
 use mir.Syntax.{w64}
 use mir.Val.{Fits}
 use borrow.Author.Needs.{needs}
@@ -20,7 +20,6 @@ use Rattle.state.specs.declared.answer.Values.{Values}
 use Rattle.state.specs.declared.run.Reader.{Reader}
 use Rattle.state.specs.declared.run.Step.{Step}
 use Rattle.state.specs.declared.run.Made.{Made}
-use Rattle.state.specs.Limits.{longest}
 use Rattle.state.specs.Values.{kindNumber, valuesOf}
 use Rattle.state.specs.Make.{fresh, made}
 use Rattle.reader.specs.Names.{written}

@@ -1,0 +1,136 @@
+-- The statements of the demands, computed on the examples of demand 3: for each call the two sides of each clause, and both sides must be the same. With
+-- a wrong definition of a call that a clause speaks of, they are not.
+use Prim.Native.Nat.{ℕ, zero, suc, _+_}
+use mathlib.Core.Path.{_≡_, refl}
+use mathlib.Core.Bool.{Bool, true, false}
+use mathlib.Core.List.{List, [], _∷_, map}
+use lib.ListN.{length, take, replicate}
+use lib.Dec.{leb}
+use Rattle.ground.specs.Choose.{pick}
+use Rattle.white.specs.White.{nameLen}
+use Rattle.state.specs.declared.place.Span.{Span}
+use Rattle.state.specs.declared.answer.Answer.{Answer}
+use Rattle.state.specs.declared.run.Phase.{Phase}
+use Rattle.state.specs.Values.{valuesOf}
+use Rattle.state.specs.Make.{badState}
+use Rattle.reader.specs.Names.{nameOf, bytes}
+use Rattle.demands.specs.Run.{World, said}
+use Rattle.demands.specs.Answers.{isStart, isEnd, isEof, isMismatch, isUnmatched, isBadState, count}
+use Rattle.demands.specs.Open.{opened, newest, leftOpen}
+use Rattle.demands.specs.Openings.{Example, openings}
+use Rattle.ground.specs.Equal.{begins, same}
+use Rattle.white.specs.White.{until, keptOf}
+use Rattle.utf8.specs.Utf8.{begins as beginsChar, taken as takenBy, checkFrom}
+use Rattle.parser.specs.Machine.{feed}
+use Rattle.state.specs.Limits.{capacity}
+use Rattle.state.specs.Place.{inner}
+use Rattle.state.specs.Make.{fresh, moved, withDepth, told, ended, refused, stopped}
+use Rattle.emit.specs.Text.{textContent, emitText, emitLastText}
+use Rattle.emit.specs.Reference.{emitRef, emitDangling}
+use Rattle.emit.specs.Bang.{bangEvent, emitComment, emitCData}
+use Rattle.emit.specs.Question.{isDecl, questionEvent, emitQuestionMark}
+use Rattle.emit.specs.End.{closingName, endEvent, unmatched, differs, matched, emitEnd, closeExpandedEmpty}
+use Rattle.emit.specs.Start.{slashed, tag, opened as openedTag, emitStart}
+use Rattle.reader.specs.Cut.{whole, stop, phaseAt, cutText, cutRef, unclosedTag, cutTag, cutMarked, cutBang, cutQuestion, cutMarkup, cutNext}
+use Rattle.reader.specs.Names.{latest, pushed, written}
+use Rattle.reader.specs.Sound.{inPlace, sound}
+use Rattle.reader.specs.Step.{emitted, checked, taken, skipped, stepText, begin, stepPhase, step}
+use Rattle.demands.specs.Run.{call, run}
+use Rattle.demands.specs.Open.{entries}
+
+-- one side of the clauses, at a call; where a clause says nothing of it, nothing
+pub record Side : Type 0 where
+  pub told : List Span
+  pub adds : List Span
+  pub own : List ℕ
+  pub takes : List Span
+  pub keeps : List Span
+  pub carries : List ℕ
+  pub unmatched : List Span
+  pub counts : ℕ
+  pub tests : List Bool
+
+module _ (x : Example) (w : World) where
+  abbrev doc : List ℕ
+  doc = x .doc
+
+  abbrev answer : Answer
+  answer = said doc w
+
+  abbrev after : World
+  after = call doc w
+
+  abbrev takesOne : Bool
+  takesOne = pick (x .settings .«allow_unmatched_ends») false (pick (isEnd answer) true (isMismatch answer))
+
+  abbrev keepsAll : Bool
+  keepsAll = pick (isStart answer) false (pick (isEnd answer) false (pick (isMismatch answer) false true))
+
+  abbrev carriesOne : Bool
+  carriesOne = pick (x .settings .«allow_unmatched_ends») false (pick (x .settings .«check_end_names») (isEnd answer) false)
+
+  abbrev pub left : Side
+  left =
+      record {
+        told = opened w;
+        adds = pick (isStart answer) (opened after) [];
+        own = pick (isStart answer) (bytes doc (nameOf answer)) [];
+        takes = pick takesOne (opened w) [];
+        keeps = pick keepsAll (opened after) [];
+        carries = pick carriesOne (bytes doc (valuesOf answer .content)) [];
+        unmatched = pick (isUnmatched answer) (opened w) [];
+        counts = pick (x .settings .«allow_unmatched_ends») 0 (count isStart (w .answers));
+        tests =
+            sound doc (w .stack) (w .reader)
+            ∷ isBadState answer
+            ∷ leb (w .reader .position .0) (after .reader .position .0)
+            ∷ pick (isMismatch answer) (isEnd answer) false
+            ∷ pick (isStart answer) (pick (slashed doc (valuesOf answer .piece)) (isEnd (said doc after)) true) true
+            ∷ pick (isEof answer) (isEof (said doc after)) true
+            ∷ [];
+      }
+
+  abbrev pub right : Side
+  right =
+      record {
+        told = leftOpen (w .answers);
+        adds = pick (isStart answer) (nameOf answer ∷ opened w) [];
+        own = pick (isStart answer) (take (nameLen (bytes doc (valuesOf answer .content))) (bytes doc (valuesOf answer .content))) [];
+        takes = pick takesOne (newest w ∷ opened after) [];
+        keeps = pick keepsAll (opened w) [];
+        carries = pick carriesOne (bytes doc (newest w)) [];
+        unmatched = [];
+        counts = pick (x .settings .«allow_unmatched_ends») 0 (count isEnd (w .answers) + count isMismatch (w .answers) + length (opened w));
+        tests = true ∷ false ∷ true ∷ false ∷ true ∷ true ∷ [];
+      }
+
+module _ (side : Example → World → Side) (x : Example) where
+  unfoldable pub sidesFrom : World → ℕ → List Side
+  sidesFrom w zero = []
+  sidesFrom w (suc n) = side x w ∷ sidesFrom (call (x .doc) w) n
+
+  unfoldable pub sides : List Side
+  sides = sidesFrom (run (x .doc) (replicate (x .slots) 0) (x .settings) 0) (length (x .turns))
+
+-- "end of file comes by call number length + 2": what that call answers, and the phase before it
+pub record End : Type 0 where
+  pub says : Bool
+  pub phase : Phase
+
+unfoldable pub ends : Example → End
+ends x =
+    record {
+      says = isEof (said (x .doc) (run (x .doc) (replicate (x .slots) 0) (x .settings) (length (x .doc) + 1)));
+      phase = run (x .doc) (replicate (x .slots) 0) (x .settings) (length (x .doc) + 1) .reader .phase;
+    }
+
+unfoldable pub wanted : Example → End
+wanted x = record { says = true; phase = Phase.Done }
+
+pub clauses-hold : map (sides left) openings ≡ map (sides right) openings
+unfolding sides sidesFrom leftOpen count badState openings entries closeExpandedEmpty run call step stepPhase stepText begin skipped taken checked emitted sound inPlace latest pushed written cutNext cutMarkup cutQuestion cutBang cutMarked cutTag unclosedTag cutRef cutText phaseAt whole stop emitStart openedTag tag slashed emitEnd matched differs unmatched endEvent closingName emitQuestionMark questionEvent isDecl emitCData emitComment bangEvent emitDangling emitRef emitLastText emitText textContent stopped refused ended told withDepth moved fresh inner capacity feed checkFrom takenBy beginsChar keptOf until begins same
+clauses-hold = refl
+
+pub end-comes : map ends openings ≡ map wanted openings
+unfolding ends wanted badState openings entries closeExpandedEmpty run call step stepPhase stepText begin skipped taken checked emitted sound inPlace latest pushed written cutNext cutMarkup cutQuestion cutBang cutMarked cutTag unclosedTag cutRef cutText phaseAt whole stop emitStart openedTag tag slashed emitEnd matched differs unmatched endEvent closingName emitQuestionMark questionEvent isDecl emitCData emitComment bangEvent emitDangling emitRef emitLastText emitText textContent stopped refused ended told withDepth moved fresh inner capacity feed checkFrom takenBy beginsChar keptOf until begins same
+end-comes = refl
