@@ -1,9 +1,7 @@
--- The statements of the demands, computed on the examples of demand 3: for each call the two sides of each clause, and both sides must be the same. With
--- a wrong definition of a call that a clause speaks of, they are not.
+-- The clauses of the demands at a call, each as two sides that must be the same. Where a clause says nothing of the call, both are empty.
 use Prim.Native.Nat.{ℕ, zero, suc, _+_}
-use mathlib.Core.Path.{_≡_, refl}
 use mathlib.Core.Bool.{Bool, true, false}
-use mathlib.Core.List.{List, [], _∷_, map}
+use mathlib.Core.List.{List, [], _∷_}
 use lib.ListN.{length, take, replicate}
 use lib.Dec.{leb}
 use Rattle.ground.specs.Choose.{pick}
@@ -12,31 +10,13 @@ use Rattle.state.specs.declared.place.Span.{Span}
 use Rattle.state.specs.declared.answer.Answer.{Answer}
 use Rattle.state.specs.declared.run.Phase.{Phase}
 use Rattle.state.specs.Values.{valuesOf}
-use Rattle.state.specs.Make.{badState}
 use Rattle.reader.specs.Names.{nameOf, bytes}
-use Rattle.demands.specs.Run.{World, said}
+use Rattle.demands.specs.Run.{World, said, call, run}
 use Rattle.demands.specs.Answers.{isStart, isEnd, isEof, isMismatch, isUnmatched, isBadState, count}
 use Rattle.demands.specs.Open.{opened, newest, leftOpen}
-use Rattle.demands.specs.Openings.{Example, openings}
-use Rattle.ground.specs.Equal.{begins, same}
-use Rattle.white.specs.White.{until, keptOf}
-use Rattle.utf8.specs.Utf8.{begins as beginsChar, taken as takenBy, checkFrom}
-use Rattle.parser.specs.Machine.{feed}
-use Rattle.state.specs.Limits.{capacity}
-use Rattle.state.specs.Place.{inner}
-use Rattle.state.specs.Make.{fresh, moved, withDepth, told, ended, refused, stopped}
-use Rattle.emit.specs.Text.{textContent, emitText, emitLastText}
-use Rattle.emit.specs.Reference.{emitRef, emitDangling}
-use Rattle.emit.specs.Bang.{bangEvent, emitComment, emitCData}
-use Rattle.emit.specs.Question.{isDecl, questionEvent, emitQuestionMark}
-use Rattle.emit.specs.End.{closingName, endEvent, unmatched, differs, matched, emitEnd, closeExpandedEmpty}
-use Rattle.emit.specs.Start.{slashed, tag, opened as openedTag, emitStart}
-use Rattle.reader.specs.Cut.{whole, stop, phaseAt, cutText, cutRef, unclosedTag, cutTag, cutMarked, cutBang, cutQuestion, cutMarkup, cutNext}
-use Rattle.reader.specs.Names.{latest, pushed, written}
-use Rattle.reader.specs.Sound.{inPlace, sound}
-use Rattle.reader.specs.Step.{emitted, checked, taken, skipped, stepText, begin, stepPhase, step}
-use Rattle.demands.specs.Run.{call, run}
-use Rattle.demands.specs.Open.{entries}
+use Rattle.demands.specs.Openings.{Example}
+use Rattle.emit.specs.Start.{slashed}
+use Rattle.reader.specs.Sound.{sound}
 
 -- one side of the clauses, at a call; where a clause says nothing of it, nothing
 pub record Side : Type 0 where
@@ -126,11 +106,3 @@ ends x =
 
 unfoldable pub wanted : Example → End
 wanted x = record { says = true; phase = Phase.Done }
-
-pub clauses-hold : map (sides left) openings ≡ map (sides right) openings
-unfolding sides sidesFrom leftOpen count badState openings entries closeExpandedEmpty run call step stepPhase stepText begin skipped taken checked emitted sound inPlace latest pushed written cutNext cutMarkup cutQuestion cutBang cutMarked cutTag unclosedTag cutRef cutText phaseAt whole stop emitStart openedTag tag slashed emitEnd matched differs unmatched endEvent closingName emitQuestionMark questionEvent isDecl emitCData emitComment bangEvent emitDangling emitRef emitLastText emitText textContent stopped refused ended told withDepth moved fresh inner capacity feed checkFrom takenBy beginsChar keptOf until begins same
-clauses-hold = refl
-
-pub end-comes : map ends openings ≡ map wanted openings
-unfolding ends wanted badState openings entries closeExpandedEmpty run call step stepPhase stepText begin skipped taken checked emitted sound inPlace latest pushed written cutNext cutMarkup cutQuestion cutBang cutMarked cutTag unclosedTag cutRef cutText phaseAt whole stop emitStart openedTag tag slashed emitEnd matched differs unmatched endEvent closingName emitQuestionMark questionEvent isDecl emitCData emitComment bangEvent emitDangling emitRef emitLastText emitText textContent stopped refused ended told withDepth moved fresh inner capacity feed checkFrom takenBy beginsChar keptOf until begins same
-end-comes = refl

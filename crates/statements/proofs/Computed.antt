@@ -1,0 +1,38 @@
+-- The statements of the demands, computed on the examples of demand 3: with a wrong definition of a call that a clause speaks of, the two sides differ.
+-- Assumes nothing.
+use mathlib.Core.Path.{_≡_, refl}
+use mathlib.Core.List.{map}
+use Rattle.state.specs.Make.{badState}
+use Rattle.demands.specs.Answers.{count}
+use Rattle.demands.specs.Open.{leftOpen}
+use Rattle.demands.specs.Openings.{openings}
+use Rattle.ground.specs.Equal.{begins, same}
+use Rattle.white.specs.White.{until, keptOf}
+use Rattle.utf8.specs.Utf8.{begins as beginsChar, taken as takenBy, checkFrom}
+use Rattle.parser.specs.Machine.{feed}
+use Rattle.state.specs.Limits.{capacity}
+use Rattle.state.specs.Place.{inner}
+use Rattle.state.specs.Make.{fresh, moved, withDepth, told, ended, refused, stopped}
+use Rattle.emit.specs.Text.{textContent, emitText, emitLastText}
+use Rattle.emit.specs.Reference.{emitRef, emitDangling}
+use Rattle.emit.specs.Bang.{bangEvent, emitComment, emitCData}
+use Rattle.emit.specs.Question.{isDecl, questionEvent, emitQuestionMark}
+use Rattle.emit.specs.End.{closingName, endEvent, unmatched, differs, matched, emitEnd, closeExpandedEmpty}
+use Rattle.emit.specs.Start.{slashed, tag, opened as openedTag, emitStart}
+use Rattle.reader.specs.Cut.{whole, stop, phaseAt, cutText, cutRef, unclosedTag, cutTag, cutMarked, cutBang, cutQuestion, cutMarkup, cutNext}
+use Rattle.reader.specs.Names.{latest, pushed, written}
+use Rattle.reader.specs.Sound.{inPlace, sound}
+use Rattle.reader.specs.Step.{emitted, checked, taken, skipped, stepText, begin, stepPhase, step}
+use Rattle.demands.specs.Run.{call, run}
+use Rattle.demands.specs.Open.{entries}
+use Rattle.statements.specs.Sides.{left, right, sidesFrom, sides, ends, wanted}
+
+-- THEOREM
+pub clauses-hold : map (sides left) openings ≡ map (sides right) openings
+unfolding sides sidesFrom leftOpen count badState openings entries closeExpandedEmpty run call step stepPhase stepText begin skipped taken checked emitted sound inPlace latest pushed written cutNext cutMarkup cutQuestion cutBang cutMarked cutTag unclosedTag cutRef cutText phaseAt whole stop emitStart openedTag tag slashed emitEnd matched differs unmatched endEvent closingName emitQuestionMark questionEvent isDecl emitCData emitComment bangEvent emitDangling emitRef emitLastText emitText textContent stopped refused ended told withDepth moved fresh inner capacity feed checkFrom takenBy beginsChar keptOf until begins same
+clauses-hold = refl
+
+-- THEOREM
+pub end-comes : map ends openings ≡ map wanted openings
+unfolding ends wanted badState openings entries closeExpandedEmpty run call step stepPhase stepText begin skipped taken checked emitted sound inPlace latest pushed written cutNext cutMarkup cutQuestion cutBang cutMarked cutTag unclosedTag cutRef cutText phaseAt whole stop emitStart openedTag tag slashed emitEnd matched differs unmatched endEvent closingName emitQuestionMark questionEvent isDecl emitCData emitComment bangEvent emitDangling emitRef emitLastText emitText textContent stopped refused ended told withDepth moved fresh inner capacity feed checkFrom takenBy beginsChar keptOf until begins same
+end-comes = refl

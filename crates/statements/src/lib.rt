@@ -1,0 +1,1 @@
+// No code: the statements of the demands, computed on examples.
