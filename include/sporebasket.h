@@ -1,0 +1,128 @@
+/* Sporebasket: a verified reader of XML events. Link libcapi.a, which `tools/host-staticlib capi` makes.
+ *
+ * The host lends all memory: the document, a stack for the open names, the state of a reader and room for an answer. Nothing is kept between
+ * calls but what stands there. Every function answers 0 or the number of a refusal, and asks nothing of the numbers that it is lent:
+ * whatever they are, the answer is the one that docs/PROMISES.md states. It asks of C what C cannot be asked to check: a pointer
+ * is to as many bytes or slots as its count says and is not null, even where the count is 0, and what is written to overlaps with nothing
+ * else that is lent.
+ */
+#ifndef SPOREBASKET_H
+#define SPOREBASKET_H
+
+#include <stddef.h>
+#include <stdint.h>
+
+#ifdef __cplusplus
+extern "C" {
+#endif
+
+/* The settings, a bit each. */
+enum {
+    SPOREBASKET_ALLOW_DANGLING_AMP = 1,
+    SPOREBASKET_ALLOW_UNMATCHED_ENDS = 2,
+    SPOREBASKET_CHECK_COMMENTS = 4,
+    SPOREBASKET_CHECK_END_NAMES = 8,
+    SPOREBASKET_EXPAND_EMPTY_ELEMENTS = 16,
+    SPOREBASKET_TRIM_MARKUP_NAMES_IN_CLOSING_TAGS = 32,
+    SPOREBASKET_TRIM_TEXT_START = 64,
+    SPOREBASKET_TRIM_TEXT_END = 128
+};
+
+/* The slots of a reader's state, and its phases. */
+enum {
+    SPOREBASKET_STATE_PHASE,
+    SPOREBASKET_STATE_POSITION,
+    SPOREBASKET_STATE_DEPTH,
+    SPOREBASKET_STATE_LENGTH,
+    SPOREBASKET_STATE_SETTINGS,
+    SPOREBASKET_STATE_SLOTS
+};
+enum {
+    SPOREBASKET_INIT,
+    SPOREBASKET_INSIDE_TEXT,
+    SPOREBASKET_INSIDE_MARKUP,
+    SPOREBASKET_INSIDE_REF,
+    SPOREBASKET_INSIDE_EMPTY,
+    SPOREBASKET_DONE
+};
+
+/* The slots of an answer, and the kinds of an event. Of an event NUMBER and PLACE are 0; of a refusal KIND, the content and NAME are; EXPECTED
+ * and FOUND are 0 but in refusals 10 and 11 (11 has no EXPECTED). A span is its first byte's place in the document and the place after its last. */
+enum {
+    SPOREBASKET_ANSWER_KIND,
+    SPOREBASKET_ANSWER_NUMBER,
+    SPOREBASKET_ANSWER_PLACE,
+    SPOREBASKET_ANSWER_PIECE_FROM,
+    SPOREBASKET_ANSWER_PIECE_TO,
+    SPOREBASKET_ANSWER_CONTENT_FROM,
+    SPOREBASKET_ANSWER_CONTENT_TO,
+    SPOREBASKET_ANSWER_NAME,
+    SPOREBASKET_ANSWER_EXPECTED_FROM,
+    SPOREBASKET_ANSWER_EXPECTED_TO,
+    SPOREBASKET_ANSWER_FOUND_FROM,
+    SPOREBASKET_ANSWER_FOUND_TO,
+    SPOREBASKET_ANSWER_SLOTS
+};
+enum {
+    SPOREBASKET_START = 1,
+    SPOREBASKET_END,
+    SPOREBASKET_EMPTY,
+    SPOREBASKET_TEXT,
+    SPOREBASKET_GENERAL_REF,
+    SPOREBASKET_COMMENT,
+    SPOREBASKET_CDATA,
+    SPOREBASKET_DECL,
+    SPOREBASKET_PI,
+    SPOREBASKET_EOF
+};
+
+/* The refusals. */
+enum {
+    SPOREBASKET_UNCLOSED_TAG = 1,
+    SPOREBASKET_UNCLOSED_SINGLE_QUOTED_ATTRIBUTE_VALUE,
+    SPOREBASKET_UNCLOSED_DOUBLE_QUOTED_ATTRIBUTE_VALUE,
+    SPOREBASKET_UNCLOSED_COMMENT,
+    SPOREBASKET_UNCLOSED_CDATA,
+    SPOREBASKET_UNCLOSED_PI,
+    SPOREBASKET_UNCLOSED_XML_DECL,
+    SPOREBASKET_INVALID_BANG_MARKUP,
+    SPOREBASKET_DOUBLE_HYPHEN_IN_COMMENT,
+    SPOREBASKET_MISMATCHED_END_TAG,
+    SPOREBASKET_UNMATCHED_END_TAG,
+    SPOREBASKET_UNCLOSED_REFERENCE,
+    SPOREBASKET_ENCODING,
+    SPOREBASKET_DOCTYPE,
+    SPOREBASKET_NAME_STACK_FULL,
+    SPOREBASKET_SLICE_TOO_LONG,
+    SPOREBASKET_BAD_STATE
+};
+
+/* A document has at most this many bytes, and at most this many names are open, each in two slots of the stack. */
+enum {
+    SPOREBASKET_LONGEST = 16777216,
+    SPOREBASKET_MOST_NAMES = 4096,
+    SPOREBASKET_NAME_SLOTS = 2
+};
+
+/* The settings of a reader to which none are given. */
+size_t sporebasket_default_settings(void);
+
+/* Makes a reader over a document, in the first SPOREBASKET_STATE_SLOTS slots of the state. Bits of the settings that stand for none do not
+ * count. 16: the document is too long; 17: the state has too few slots. Then nothing is written. */
+size_t sporebasket_new(const uint8_t *document, size_t length, size_t settings, size_t *state, size_t state_slots);
+
+/* Reads on, and writes the answer, the state after it, and, for a Start, its name on the stack. 0 is an event. Lend each call the same document and the
+ * stack and state as the call before left them. 17: the state is none that a reader over this document and stack comes to, or it has
+ * too few slots, and it is left alone; or the answer has too few slots, and nothing is written. Slots past those named above are left alone. */
+size_t sporebasket_read_event(const uint8_t *document, size_t length, size_t *stack, size_t stack_slots, size_t *state,
+                              size_t state_slots, size_t *answer, size_t answer_slots);
+
+/* Where the bytes of a span stand in the document: the two slots of `part` are its start and its end, or both are the document's end if the
+ * span does not lie in it. 17: the part has too few slots, and nothing is written. */
+size_t sporebasket_content(const uint8_t *document, size_t length, size_t from, size_t to, size_t *part, size_t part_slots);
+
+#ifdef __cplusplus
+}
+#endif
+
+#endif
