@@ -1,3 +1,5 @@
 pub mod Calls
 pub mod Numbers
 pub mod Puts
+pub mod Rounds
+pub mod Runs

@@ -1,15 +1,16 @@
 // The cases of the reader: the calls that a line makes.
-use crate::line::bytes;
-use crate::line::number;
-use crate::line::say;
-use crate::line::values;
-use crate::line::word;
 use crate::says::say_names;
 use crate::says::say_reader;
 use crate::says::say_slots;
 use crate::says::say_tally;
 use crate::says::say_values;
-use crate::settings::settings;
+use lines::line::bytes;
+use lines::line::lent;
+use lines::line::number;
+use lines::line::say;
+use lines::line::values;
+use lines::line::word;
+use lines::settings::settings;
 use reader::advance;
 use reader::content;
 use state::answer::Kind;
@@ -23,7 +24,6 @@ use state::run::Reader;
 use tally::tally;
 ghost use mathlib.Core.Path.{_≡_};
 ghost use lib.ListN.{length};
-ghost use Rattle.io.specs.Counts.{Counts};
 
 // Writes the answers below the line, if it has one of the forms.
 pub fn answer(text: &[u8]) {
@@ -101,17 +101,6 @@ fn call(reader: Reader, document: &[u8], stack: &mut [usize]) -> Turn {
     Turn {
         reader: after,
         ended: values.kind == eof.number(),
-    }
-}
-
-// How many slots are lent: as many as asked for, if the stack has them.
-fn lent(slots: usize, stack: &[usize]) -> usize
-    ensures { λ r. ⌜ Counts r (now (stack .entry)) ⌝ }
-{
-    if slots < stack.len() {
-        slots
-    } else {
-        stack.len()
     }
 }
 

@@ -1,9 +1,9 @@
 // The cases of the functions below the reader: a line names one, which is called on its numbers and bytes.
-use crate::line::bytes;
-use crate::line::number;
-use crate::line::say;
-use crate::line::say_number;
-use crate::line::word;
+use lines::line::bytes;
+use lines::line::number;
+use lines::line::say;
+use lines::line::say_number;
+use lines::line::word;
 
 // Writes the answer behind the line, if it names a function.
 pub fn answer(text: &[u8]) {

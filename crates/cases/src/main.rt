@@ -9,11 +9,10 @@
 // than 65,536 bytes.
 mod calls;
 mod leaves;
-mod line;
 mod says;
-mod settings;
 
 use libc::STDIN_FILENO;
+use lines::line;
 
 fn main() {
     let mut buffer = io::large_buffer();

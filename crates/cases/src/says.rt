@@ -1,10 +1,11 @@
 // How an answer and what a call leaves are written.
-use crate::line::say;
-use crate::line::say_number;
-use crate::settings::say_settings;
+use lines::line::say;
+use lines::line::say_number;
+use lines::settings::say_settings;
+use lines::words::say_phase;
+use lines::words::say_word;
 use state::answer::Values;
 use state::place::Span;
-use state::run::Phase;
 use state::run::Reader;
 use tally::Tallied;
 
@@ -43,33 +44,6 @@ fn say_refusal(values: Values) {
 fn say_span(text: &[u8], span: Span) {
     say_number(text, span.from);
     say_number(b"..", span.to);
-}
-
-// The word of an event's kind.
-fn say_word(kind: usize) {
-    match kind {
-        1 => say(b"start"),
-        2 => say(b"end"),
-        3 => say(b"empty"),
-        4 => say(b"text"),
-        5 => say(b"ref"),
-        6 => say(b"comment"),
-        7 => say(b"cdata"),
-        8 => say(b"decl"),
-        9 => say(b"pi"),
-        _ => say(b"eof"),
-    }
-}
-
-fn say_phase(phase: Phase) {
-    match phase {
-        Phase::Init => say(b"init"),
-        Phase::InsideText => say(b"text"),
-        Phase::InsideMarkup => say(b"markup"),
-        Phase::InsideRef => say(b"ref"),
-        Phase::InsideEmpty => say(b"empty"),
-        Phase::Done => say(b"done"),
-    }
 }
 
 // The phase, the position and the depth.

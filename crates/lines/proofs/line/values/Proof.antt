@@ -4,8 +4,8 @@ use mathlib.Core.Path.{_≡_}
 use lib.ListN.{length, length-set}
 use native.Mathlib.Omega.{arith}
 use borrow.Author.Needs.{needs}
-use Rattle.cases.proofs.line.values.Statement.{statement}
-use Rattle.cases.proofs.line.values.Tie as tie
+use Rattle.lines.proofs.line.values.Statement.{statement}
+use Rattle.lines.proofs.line.values.Tie as tie
 
 abbrev Inv-loop : tie.InvT-loop
 Inv-loop s from out₀ i₀ n₀ out i n = length out ≡ length out₀

@@ -150,6 +150,17 @@ fn byte(s: &[u8], at: usize) -> u8
     ((digit_of(s[at + n - 1]) * 16 + digit_of(s[at + n])) % 256) as u8
 }
 
+// How many slots are lent: as many as asked for, if the stack has them.
+pub fn lent(slots: usize, stack: &[usize]) -> usize
+    ensures { λ r. ⌜ Counts r (now (stack .entry)) ⌝ }
+{
+    if slots < stack.len() {
+        slots
+    } else {
+        stack.len()
+    }
+}
+
 // Writes text.
 pub fn say(text: &[u8]) {
     io::write_all(STDOUT_FILENO, text);

@@ -2,8 +2,8 @@
 use Prim.Native.Nat.{_-_, _≤_}
 use lib.ListN.{length}
 use borrow.Author.Needs.{needs}
-use Rattle.cases.proofs.line.find.Statement.{statement}
-use Rattle.cases.proofs.line.find.Tie as tie
+use Rattle.lines.proofs.line.find.Statement.{statement}
+use Rattle.lines.proofs.line.find.Tie as tie
 
 abbrev Inv-loop : tie.InvT-loop
 Inv-loop s from b i₀ i = from ≤ i

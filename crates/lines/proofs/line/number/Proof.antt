@@ -2,8 +2,8 @@
 use Prim.Native.Nat.{_-_}
 use lib.ListN.{length}
 use borrow.Author.Needs.{needs}
-use Rattle.cases.proofs.line.number.Statement.{statement}
-use Rattle.cases.proofs.line.number.Tie as tie
+use Rattle.lines.proofs.line.number.Statement.{statement}
+use Rattle.lines.proofs.line.number.Tie as tie
 
 abbrev Inv-loop : tie.InvT-loop
 Inv-loop s from value₀ i₀ value i = Unit {0}

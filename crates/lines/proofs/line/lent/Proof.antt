@@ -1,8 +1,8 @@
 -- `lent` meets its contract. Assumes nothing.
 use borrow.Author.Needs.{needs}
 use Rattle.io.proofs.Counting.{counts}
-use Rattle.cases.proofs.calls.lent.Statement.{statement}
-use Rattle.cases.proofs.calls.lent.Tie as tie
+use Rattle.lines.proofs.line.lent.Statement.{statement}
+use Rattle.lines.proofs.line.lent.Tie as tie
 
 pub lent-spec : {M : Type 1} → statement M
 lent-spec =

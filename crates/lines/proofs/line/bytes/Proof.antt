@@ -5,8 +5,8 @@ use lib.ListN.{length, length-set}
 use native.Mathlib.Omega.{arith}
 use borrow.Author.Needs.{needs}
 use Rattle.io.proofs.Counting.{counts}
-use Rattle.cases.proofs.line.bytes.Statement.{statement}
-use Rattle.cases.proofs.line.bytes.Tie as tie
+use Rattle.lines.proofs.line.bytes.Statement.{statement}
+use Rattle.lines.proofs.line.bytes.Tie as tie
 
 abbrev Inv-loop : tie.InvT-loop
 Inv-loop s from out₀ i₀ n₀ out i n = (n ≤ length out) × (length out ≡ length out₀)

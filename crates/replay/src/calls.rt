@@ -1,0 +1,64 @@
+// The calls of a case.
+use crate::says::say_crate;
+use crate::says::say_values;
+use lines::line::bytes;
+use lines::line::lent;
+use lines::line::number;
+use lines::line::word;
+use lines::settings::settings;
+use reader::advance;
+use state::answer::Kind;
+use state::run::Made;
+use state::run::Reader;
+
+// Runs the case whose settings stand at `from`, or after the space there.
+pub fn case(text: &[u8], from: usize) {
+    let end = word(text, from);
+    let settings = settings(ground::part(text, from, end));
+    let slots = number(text, end);
+    let mut space = io::buffer();
+    let n = bytes(text, slots.next, &mut space);
+    let document = &space[..n];
+    let mut stack = [0usize; 8200];
+    let lent = lent(slots.value, &stack);
+    match Reader::new(document, settings) {
+        Made::Fresh(reader) => run(reader, document, &mut stack[..lent]),
+        Made::Refused(_) => {}
+    }
+}
+
+// Calls until end of file, which comes after as many calls as the document has bytes and two more, or before. `place` is that of the latest refusal.
+fn run(fresh: Reader, document: &[u8], stack: &mut [usize]) {
+    let eof = Kind::Eof;
+    let last = eof.number();
+    let mut reader = fresh;
+    let mut place = first_place(document);
+    let mut left = document.len() + 2;
+    while 0 < left {
+        left -= 1;
+        let step = advance(reader, document, stack);
+        reader = step.reader;
+        let answer = step.answer;
+        let values = answer.values();
+        say_crate(values, reader, document, place);
+        say_values(values, reader, document);
+        place = latest(values.kind, values.place, place);
+        if values.kind == last {
+            break;
+        }
+    }
+}
+
+// The crate's place before any refusal is 0, and its positions count from after a byte order mark.
+fn first_place(document: &[u8]) -> usize {
+    if ground::starts_with(document, 0, b"\xEF\xBB\xBF") {
+        3
+    } else {
+        0
+    }
+}
+
+// The place of the latest refusal: that of the answer, if it is one.
+fn latest(kind: usize, of_answer: usize, before: usize) -> usize {
+    if kind == 0 { of_answer } else { before }
+}
