@@ -1,16 +1,23 @@
 /* Sporebasket: a verified reader of XML events. Link libcapi.a, which `tools/host-staticlib capi` makes.
  *
  * The host lends all memory: the document, a stack for the open names, the state of a reader and room for an answer. Nothing is kept between
- * calls but what stands there. Every function answers 0 or the number of a refusal, and asks nothing of the numbers that it is lent:
- * whatever they are, the answer is the one that docs/PROMISES.md states. It asks of C what C cannot be asked to check: a pointer
- * is to as many bytes or slots as its count says and is not null, even where the count is 0, and what is written to overlaps with nothing
- * else that is lent.
+ * calls but what stands there, so each thread may have a reader of its own, over one document too. Every function but
+ * sporebasket_default_settings answers 0 or the number of a refusal, and asks nothing of the numbers that it is lent: whatever they are, the
+ * answer is the one that docs/PROMISES.md states. It asks of C what C cannot be asked to check: a pointer is to as many bytes or slots as its
+ * count says, aligned as its type is and not null, even where the count is 0, and what is written to overlaps with nothing else that is lent.
  */
 #ifndef SPOREBASKET_H
 #define SPOREBASKET_H
 
 #include <stddef.h>
 #include <stdint.h>
+
+/* The archive is for processors with addresses of 64 bits: a slot has 8 bytes. */
+#if defined(__cplusplus) && __cplusplus >= 201103L
+static_assert(sizeof(size_t) == 8, "a slot has 8 bytes");
+#elif defined(__STDC_VERSION__) && __STDC_VERSION__ >= 201112L
+_Static_assert(sizeof(size_t) == 8, "a slot has 8 bytes");
+#endif
 
 #ifdef __cplusplus
 extern "C" {
@@ -76,6 +83,13 @@ enum {
     SPOREBASKET_EOF
 };
 
+/* The slots of a part of the document. */
+enum {
+    SPOREBASKET_PART_FROM,
+    SPOREBASKET_PART_TO,
+    SPOREBASKET_PART_SLOTS
+};
+
 /* The refusals. */
 enum {
     SPOREBASKET_UNCLOSED_TAG = 1,
@@ -117,7 +131,7 @@ size_t sporebasket_new(const uint8_t *document, size_t length, size_t settings, 
 size_t sporebasket_read_event(const uint8_t *document, size_t length, size_t *stack, size_t stack_slots, size_t *state,
                               size_t state_slots, size_t *answer, size_t answer_slots);
 
-/* Where the bytes of a span stand in the document: the two slots of `part` are its start and its end, or both are the document's end if the
+/* Where the bytes of a span stand in the document: the slots of `part` are its start and its end, or both are the document's end if the
  * span does not lie in it. 17: the part has too few slots, and nothing is written. */
 size_t sporebasket_content(const uint8_t *document, size_t length, size_t from, size_t to, size_t *part, size_t part_slots);
 

@@ -1,0 +1,77 @@
+//! Prints the outline of a document, from a file or standard input: names and text, indented by depth, and each refusal with its line and column.
+
+use sporebasket::{Error, Event, Reader};
+use std::io::{self, Read, Write};
+use std::{env, fs, process};
+
+/// The document named on the command line, or standard input.
+fn document() -> io::Result<Vec<u8>> {
+    match env::args_os().nth(1) {
+        Some(path) => fs::read(path),
+        None => {
+            let mut bytes = Vec::new();
+            io::stdin().read_to_end(&mut bytes)?;
+            Ok(bytes)
+        }
+    }
+}
+
+/// The line and the column of a place, both from 1. A column is a character.
+fn line_and_column(document: &[u8], place: usize) -> (usize, usize) {
+    let before = &document[..place];
+    let line = before.iter().filter(|byte| **byte == b'\n').count();
+    let start = before.iter().rposition(|byte| *byte == b'\n').map_or(0, |at| at + 1);
+    let column = String::from_utf8_lossy(&before[start..]).chars().count();
+    (line + 1, column + 1)
+}
+
+/// What stands on the line of an event, if it has one.
+fn shown(event: &Event) -> Option<String> {
+    let text = String::from_utf8_lossy(event.as_bytes());
+    match event {
+        Event::Start(tag) | Event::Empty(tag) => Some(format!("<{}>", String::from_utf8_lossy(tag.name()))),
+        Event::Text(_) if text.is_empty() => None,
+        Event::Text(_) | Event::CData(_) => Some(format!("{text:?}")),
+        Event::GeneralRef(_) => Some(format!("&{text};")),
+        _ => None,
+    }
+}
+
+fn outline(document: &[u8], out: &mut impl Write) -> io::Result<()> {
+    let mut reader = Reader::from_reader(document);
+    reader.config_mut().trim_text(true);
+    loop {
+        let indent = 2 * reader.depth();
+        match reader.read_event() {
+            Ok(Event::Eof) => break,
+            Ok(event) => {
+                if let Some(line) = shown(&event) {
+                    writeln!(out, "{:indent$}{line}", "")?;
+                }
+            }
+            Err(error) => {
+                let (line, column) = line_and_column(document, reader.error_position() as usize);
+                writeln!(out, "{:indent$}! {line}:{column}: {error}", "")?;
+                // here no end of file comes
+                if error == Error::SliceTooLong {
+                    break;
+                }
+            }
+        }
+    }
+    for name in reader.open_names().rev() {
+        writeln!(out, "! <{}> is still open", String::from_utf8_lossy(name))?;
+    }
+    Ok(())
+}
+
+fn main() {
+    let mut out = io::BufWriter::new(io::stdout().lock());
+    let done = document()
+        .and_then(|bytes| outline(&bytes, &mut out))
+        .and_then(|()| out.flush());
+    if let Err(error) = done {
+        eprintln!("outline: {error}");
+        process::exit(2);
+    }
+}

@@ -1,0 +1,196 @@
+//! The settings of a reader.
+
+use crate::lent;
+
+/// The settings of a reader, under quick-xml's names.
+///
+/// They may be changed between two calls, by [`Reader::config_mut`](crate::Reader::config_mut).
+///
+/// ```
+/// use sporebasket::Config;
+///
+/// let settings = Config::default();
+/// assert!(settings.check_end_names && settings.trim_markup_names_in_closing_tags);
+/// assert!(!settings.check_comments && !settings.expand_empty_elements);
+/// ```
+#[derive(Clone, Copy, Debug, PartialEq, Eq, Hash)]
+#[non_exhaustive]
+pub struct Config {
+    /// An `&` without its `;` is text. Off, it is [`UnclosedReference`](crate::IllFormedError::UnclosedReference). Off by default.
+    ///
+    /// ```
+    /// use sporebasket::{Event, Reader};
+    ///
+    /// let mut reader = Reader::from_str("fish & chips");
+    /// reader.config_mut().allow_dangling_amp = true;
+    /// assert_eq!(reader.read_event()?.as_bytes(), b"fish ");
+    /// assert_eq!(reader.read_event()?.as_bytes(), b"& chips");
+    /// # Ok::<(), sporebasket::Error>(())
+    /// ```
+    pub allow_dangling_amp: bool,
+
+    /// A closing tag with nothing open is an [`End`](crate::Event::End). Off, it is
+    /// [`UnmatchedEndTag`](crate::IllFormedError::UnmatchedEndTag). Off by default.
+    ///
+    /// ```
+    /// use sporebasket::{Event, Reader};
+    ///
+    /// let mut reader = Reader::from_str("</a>");
+    /// reader.config_mut().allow_unmatched_ends = true;
+    /// assert!(matches!(reader.read_event()?, Event::End(_)));
+    /// # Ok::<(), sporebasket::Error>(())
+    /// ```
+    pub allow_unmatched_ends: bool,
+
+    /// A comment with `--` in it is [`DoubleHyphenInComment`](crate::IllFormedError::DoubleHyphenInComment). Off by default.
+    ///
+    /// ```
+    /// use sporebasket::{Error, IllFormedError, Reader};
+    ///
+    /// let mut reader = Reader::from_str("<!--a--b-->");
+    /// reader.config_mut().check_comments = true;
+    /// let error = reader.read_event().unwrap_err();
+    /// assert_eq!(error, Error::IllFormed(IllFormedError::DoubleHyphenInComment));
+    /// ```
+    pub check_comments: bool,
+
+    /// A closing tag with another name than the latest open one is
+    /// [`MismatchedEndTag`](crate::IllFormedError::MismatchedEndTag). On by default.
+    ///
+    /// ```
+    /// use sporebasket::{Event, Reader};
+    ///
+    /// let mut reader = Reader::from_str("<a></b>");
+    /// reader.config_mut().check_end_names = false;
+    /// assert!(matches!(reader.read_event()?, Event::Start(_)));
+    /// assert!(matches!(reader.read_event()?, Event::End(_)));
+    /// # Ok::<(), sporebasket::Error>(())
+    /// ```
+    pub check_end_names: bool,
+
+    /// `<a/>` is a [`Start`](crate::Event::Start) and then an [`End`](crate::Event::End), not an
+    /// [`Empty`](crate::Event::Empty). Off by default.
+    ///
+    /// ```
+    /// use sporebasket::{Event, Reader};
+    ///
+    /// let mut reader = Reader::from_str("<a/>");
+    /// reader.config_mut().expand_empty_elements = true;
+    /// assert!(matches!(reader.read_event()?, Event::Start(_)));
+    /// assert!(matches!(reader.read_event()?, Event::End(_)));
+    /// # Ok::<(), sporebasket::Error>(())
+    /// ```
+    pub expand_empty_elements: bool,
+
+    /// White space after the name in `</a >` does not count. On by default.
+    ///
+    /// ```
+    /// use sporebasket::Reader;
+    ///
+    /// let mut reader = Reader::from_str("<a></a >");
+    /// reader.config_mut().trim_markup_names_in_closing_tags = false;
+    /// reader.read_event()?;
+    /// assert_eq!(reader.read_event().unwrap_err().number(), 10);
+    /// # Ok::<(), sporebasket::Error>(())
+    /// ```
+    pub trim_markup_names_in_closing_tags: bool,
+
+    /// White space before text is skipped. Off by default.
+    ///
+    /// ```
+    /// use sporebasket::Reader;
+    ///
+    /// let mut reader = Reader::from_str(" a <b/>");
+    /// reader.config_mut().trim_text_start = true;
+    /// assert_eq!(reader.read_event()?.as_bytes(), b"a ");
+    /// # Ok::<(), sporebasket::Error>(())
+    /// ```
+    pub trim_text_start: bool,
+
+    /// White space after text is cut off its content. Text left empty is still [`Text`](crate::Event::Text), but for the last of the
+    /// document, which is [`Eof`](crate::Event::Eof). Off by default.
+    ///
+    /// ```
+    /// use sporebasket::Reader;
+    ///
+    /// let mut reader = Reader::from_str(" a <b/>");
+    /// reader.config_mut().trim_text_end = true;
+    /// assert_eq!(reader.read_event()?.as_bytes(), b" a");
+    /// # Ok::<(), sporebasket::Error>(())
+    /// ```
+    pub trim_text_end: bool,
+}
+
+impl Config {
+    /// Trims text at both ends, or at neither.
+    ///
+    /// ```
+    /// use sporebasket::Reader;
+    ///
+    /// let mut reader = Reader::from_str(" a <b/>");
+    /// reader.config_mut().trim_text(true);
+    /// assert_eq!(reader.read_event()?.as_bytes(), b"a");
+    /// # Ok::<(), sporebasket::Error>(())
+    /// ```
+    pub fn trim_text(&mut self, trim: bool) {
+        self.trim_text_start = trim;
+        self.trim_text_end = trim;
+    }
+
+    /// Checks comments and the names of closing tags, or neither.
+    ///
+    /// ```
+    /// let mut settings = sporebasket::Config::default();
+    /// settings.enable_all_checks(true);
+    /// assert!(settings.check_comments && settings.check_end_names);
+    /// ```
+    pub fn enable_all_checks(&mut self, enable: bool) {
+        self.check_comments = enable;
+        self.check_end_names = enable;
+    }
+
+    /// The settings as one number, a bit each.
+    pub(crate) fn bits(self) -> usize {
+        usize::from(self.allow_dangling_amp)
+            | usize::from(self.allow_unmatched_ends) << 1
+            | usize::from(self.check_comments) << 2
+            | usize::from(self.check_end_names) << 3
+            | usize::from(self.expand_empty_elements) << 4
+            | usize::from(self.trim_markup_names_in_closing_tags) << 5
+            | usize::from(self.trim_text_start) << 6
+            | usize::from(self.trim_text_end) << 7
+    }
+
+    /// The settings whose bits are set.
+    fn from_bits(bits: usize) -> Self {
+        let on = |place: u32| bits >> place & 1 == 1;
+        Config {
+            allow_dangling_amp: on(0),
+            allow_unmatched_ends: on(1),
+            check_comments: on(2),
+            check_end_names: on(3),
+            expand_empty_elements: on(4),
+            trim_markup_names_in_closing_tags: on(5),
+            trim_text_start: on(6),
+            trim_text_end: on(7),
+        }
+    }
+}
+
+impl Default for Config {
+    fn default() -> Self {
+        Config::from_bits(lent::default_settings())
+    }
+}
+
+#[cfg(test)]
+mod tests {
+    use super::Config;
+
+    #[test]
+    fn bits_there_and_back() {
+        for bits in 0..256 {
+            assert_eq!(Config::from_bits(bits).bits(), bits);
+        }
+    }
+}

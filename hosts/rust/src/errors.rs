@@ -1,0 +1,268 @@
+//! What a refusal says.
+
+use crate::raw::{LONGEST, MOST_NAMES};
+use std::error;
+use std::fmt;
+
+/// Why a call gave no event. Each refusal has a number of its own, 1 to 17.
+///
+/// Where it is told stands with the reader: [`Reader::error_position`](crate::Reader::error_position) is the place to show a user, and
+/// [`Reader::piece`](crate::Reader::piece) what was refused. Reading can go on after it. After a refusal that ends the run the next call gives
+/// [`Eof`](crate::Event::Eof); only a reader over a document that is too long gives the same refusal for ever.
+///
+/// ```
+/// use sporebasket::{Error, Event, IllFormedError, Reader};
+///
+/// let mut reader = Reader::from_str("<a></b>c");
+/// reader.read_event()?;
+/// match reader.read_event() {
+///     Err(Error::IllFormed(IllFormedError::MismatchedEndTag { expected, found })) => {
+///         assert_eq!((expected.as_str(), found.as_str()), ("a", "b"));
+///     }
+///     other => panic!("{other:?}"),
+/// }
+/// assert_eq!(reader.error_position(), 3);
+/// assert_eq!(reader.read_event()?.as_bytes(), b"c");
+/// # Ok::<(), Error>(())
+/// ```
+#[derive(Clone, Debug, PartialEq, Eq, Hash)]
+#[non_exhaustive]
+pub enum Error {
+    /// The document leaves the grammar: 1 to 8. It ends the run.
+    Syntax(SyntaxError),
+    /// The document is not well formed: 9 to 12. Reading goes on behind the piece.
+    IllFormed(IllFormedError),
+    /// The piece is not UTF-8: 13. It ends the run.
+    Encoding,
+    /// Markup that opens `<!D` or `<!d`: 14. This reader takes no document type. It ends the run.
+    DocType,
+    /// A name more than the stack has room for: 15. It ends the run.
+    NameStackFull,
+    /// The document has more bytes than [`LONGEST`]: 16. Every call gives it.
+    SliceTooLong,
+    /// The state is none that a reader comes to: 17. A [`Reader`](crate::Reader) keeps its own state and never gives it.
+    BadState,
+}
+
+/// How a document leaves the grammar.
+///
+/// ```
+/// use sporebasket::{Error, Reader, SyntaxError};
+///
+/// let mut reader = Reader::from_str("a<b c='>");
+/// reader.read_event()?;
+/// assert_eq!(
+///     reader.read_event().unwrap_err(),
+///     Error::Syntax(SyntaxError::UnclosedSingleQuotedAttributeValue),
+/// );
+/// assert_eq!(reader.error_position(), 1);
+/// # Ok::<(), Error>(())
+/// ```
+#[derive(Clone, Copy, Debug, PartialEq, Eq, Hash)]
+#[non_exhaustive]
+pub enum SyntaxError {
+    /// 1: a tag without its `>`.
+    UnclosedTag,
+    /// 2: a tag that ends within `'`.
+    UnclosedSingleQuotedAttributeValue,
+    /// 3: a tag that ends within `"`.
+    UnclosedDoubleQuotedAttributeValue,
+    /// 4: a comment without its `-->`, or one that does not open with `<!--`.
+    UnclosedComment,
+    /// 5: a CDATA section without its `]]>`, or one that does not open with `<![CDATA[`.
+    UnclosedCData,
+    /// 6: a processing instruction without its `?>`.
+    UnclosedPI,
+    /// 7: an XML declaration without its `?>`.
+    UnclosedXmlDecl,
+    /// 8: `<!` before something else than a comment or a CDATA section.
+    InvalidBangMarkup,
+}
+
+/// How a document is not well formed.
+///
+/// ```
+/// use sporebasket::{Error, IllFormedError, Reader};
+///
+/// let mut reader = Reader::from_str("</a>");
+/// assert_eq!(
+///     reader.read_event().unwrap_err(),
+///     Error::IllFormed(IllFormedError::UnmatchedEndTag("a".into())),
+/// );
+/// ```
+#[derive(Clone, Debug, PartialEq, Eq, Hash)]
+#[non_exhaustive]
+pub enum IllFormedError {
+    /// 9: `--` in a comment, where [`check_comments`](crate::Config::check_comments) is on.
+    DoubleHyphenInComment,
+    /// 10: a closing tag with another name than the latest open one, which is no longer open.
+    MismatchedEndTag {
+        /// The name that was open.
+        expected: String,
+        /// The name of the closing tag.
+        found: String,
+    },
+    /// 11: a closing tag, of this name, with nothing open.
+    UnmatchedEndTag(String),
+    /// 12: an `&` without its `;`.
+    UnclosedReference,
+}
+
+/// The expected name and the one found, for the refusals that have them.
+pub(crate) struct Names<'a> {
+    pub expected: &'a [u8],
+    pub found: &'a [u8],
+}
+
+fn owned(name: &[u8]) -> String {
+    String::from_utf8_lossy(name).into_owned()
+}
+
+impl Error {
+    /// The refusal of this number.
+    pub(crate) fn numbered(number: usize, names: Names<'_>) -> Self {
+        match number {
+            1 => SyntaxError::UnclosedTag.into(),
+            2 => SyntaxError::UnclosedSingleQuotedAttributeValue.into(),
+            3 => SyntaxError::UnclosedDoubleQuotedAttributeValue.into(),
+            4 => SyntaxError::UnclosedComment.into(),
+            5 => SyntaxError::UnclosedCData.into(),
+            6 => SyntaxError::UnclosedPI.into(),
+            7 => SyntaxError::UnclosedXmlDecl.into(),
+            8 => SyntaxError::InvalidBangMarkup.into(),
+            9 => IllFormedError::DoubleHyphenInComment.into(),
+            10 => IllFormedError::MismatchedEndTag {
+                expected: owned(names.expected),
+                found: owned(names.found),
+            }
+            .into(),
+            11 => IllFormedError::UnmatchedEndTag(owned(names.found)).into(),
+            12 => IllFormedError::UnclosedReference.into(),
+            13 => Error::Encoding,
+            14 => Error::DocType,
+            15 => Error::NameStackFull,
+            16 => Error::SliceTooLong,
+            _ => Error::BadState,
+        }
+    }
+
+    /// The number of the refusal.
+    ///
+    /// ```
+    /// use sporebasket::Reader;
+    ///
+    /// let mut reader = Reader::from_str("<!doctype x>");
+    /// assert_eq!(reader.read_event().unwrap_err().number(), 14);
+    /// ```
+    pub fn number(&self) -> u8 {
+        match self {
+            Error::Syntax(error) => match error {
+                SyntaxError::UnclosedTag => 1,
+                SyntaxError::UnclosedSingleQuotedAttributeValue => 2,
+                SyntaxError::UnclosedDoubleQuotedAttributeValue => 3,
+                SyntaxError::UnclosedComment => 4,
+                SyntaxError::UnclosedCData => 5,
+                SyntaxError::UnclosedPI => 6,
+                SyntaxError::UnclosedXmlDecl => 7,
+                SyntaxError::InvalidBangMarkup => 8,
+            },
+            Error::IllFormed(error) => match error {
+                IllFormedError::DoubleHyphenInComment => 9,
+                IllFormedError::MismatchedEndTag { .. } => 10,
+                IllFormedError::UnmatchedEndTag(_) => 11,
+                IllFormedError::UnclosedReference => 12,
+            },
+            Error::Encoding => 13,
+            Error::DocType => 14,
+            Error::NameStackFull => 15,
+            Error::SliceTooLong => 16,
+            Error::BadState => 17,
+        }
+    }
+}
+
+impl From<SyntaxError> for Error {
+    fn from(error: SyntaxError) -> Self {
+        Error::Syntax(error)
+    }
+}
+
+impl From<IllFormedError> for Error {
+    fn from(error: IllFormedError) -> Self {
+        Error::IllFormed(error)
+    }
+}
+
+impl fmt::Display for Error {
+    fn fmt(&self, f: &mut fmt::Formatter<'_>) -> fmt::Result {
+        match self {
+            Error::Syntax(error) => error.fmt(f),
+            Error::IllFormed(error) => error.fmt(f),
+            Error::Encoding => f.write_str("bytes that are not UTF-8"),
+            Error::DocType => f.write_str("a document type, which this reader does not take"),
+            Error::NameStackFull => write!(f, "more open elements than there is room for (at most {MOST_NAMES})"),
+            Error::SliceTooLong => write!(f, "a document of more than {LONGEST} bytes"),
+            Error::BadState => f.write_str("a state that no reader comes to"),
+        }
+    }
+}
+
+impl fmt::Display for SyntaxError {
+    fn fmt(&self, f: &mut fmt::Formatter<'_>) -> fmt::Result {
+        f.write_str(match self {
+            SyntaxError::UnclosedTag => "a tag lacks its `>`",
+            SyntaxError::UnclosedSingleQuotedAttributeValue => "a value in a tag lacks its closing `'`",
+            SyntaxError::UnclosedDoubleQuotedAttributeValue => "a value in a tag lacks its closing `\"`",
+            SyntaxError::UnclosedComment => "a comment is not `<!--`, some text and `-->`",
+            SyntaxError::UnclosedCData => "a CDATA section is not `<![CDATA[`, some text and `]]>`",
+            SyntaxError::UnclosedPI => "a processing instruction lacks its `?>`",
+            SyntaxError::UnclosedXmlDecl => "the XML declaration lacks its `?>`",
+            SyntaxError::InvalidBangMarkup => "`<!` opens neither a comment nor a CDATA section",
+        })
+    }
+}
+
+impl fmt::Display for IllFormedError {
+    fn fmt(&self, f: &mut fmt::Formatter<'_>) -> fmt::Result {
+        match self {
+            IllFormedError::DoubleHyphenInComment => f.write_str("a comment has `--` in it"),
+            IllFormedError::MismatchedEndTag { expected, found } => {
+                write!(f, "`</{found}>` stands where `</{expected}>` is due")
+            }
+            IllFormedError::UnmatchedEndTag(found) => write!(f, "`</{found}>` closes nothing"),
+            IllFormedError::UnclosedReference => f.write_str("a reference lacks its `;`"),
+        }
+    }
+}
+
+impl error::Error for SyntaxError {}
+
+impl error::Error for IllFormedError {}
+
+impl error::Error for Error {}
+
+#[cfg(test)]
+mod tests {
+    use super::{Error, Names};
+
+    fn numbered(number: usize) -> Error {
+        let names = Names {
+            expected: b"a",
+            found: b"b",
+        };
+        Error::numbered(number, names)
+    }
+
+    #[test]
+    fn numbers_there_and_back() {
+        for number in 1..=17 {
+            assert_eq!(usize::from(numbered(number).number()), number);
+        }
+    }
+
+    #[test]
+    fn every_text_is_its_own() {
+        let texts: std::collections::HashSet<_> = (1..=17).map(|n| numbered(n).to_string()).collect();
+        assert_eq!(texts.len(), 17);
+    }
+}

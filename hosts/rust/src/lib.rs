@@ -1,0 +1,49 @@
+//! Sporebasket: a verified reader of the events of an XML document in memory.
+//!
+//! It is a port of quick-xml's pull reader over a byte slice. The code that reads is proved: for any bytes and settings the answer of a
+//! call, the state that is left and the open names are those of a definition, the end comes, and no opening is lost. This package
+//! links it as an archive and gives its numbers the names that a user of quick-xml knows.
+//!
+//! ```
+//! use sporebasket::{Event, Reader};
+//!
+//! let mut reader = Reader::from_str("<t><r n=\"1\"/>06:15</t>");
+//! reader.config_mut().trim_text(true);
+//! loop {
+//!     match reader.read_event() {
+//!         Ok(Event::Start(tag)) => assert_eq!(tag.name(), b"t"),
+//!         Ok(Event::Empty(tag)) => assert_eq!(tag.attributes_raw(), b" n=\"1\""),
+//!         Ok(Event::Text(text)) => assert_eq!(text.as_str()?, "06:15"),
+//!         Ok(Event::Eof) => break,
+//!         Ok(_) => (),
+//!         Err(error) => panic!("{error} at byte {}", reader.error_position()),
+//!     }
+//! }
+//! # Ok::<(), Box<dyn std::error::Error>>(())
+//! ```
+//!
+//! What is refused has a number, 1 to 17, and a place: see [`Error`]. A document has at most [`LONGEST`] bytes, at most [`MOST_NAMES`] names
+//! are open at once, and a document type is refused. Attributes and references are handed over as they stand.
+//!
+//! Nothing is shared between readers, so each may be used on a thread of its own. A reader allocates once, for the open names. Hosts that
+//! lend all memory themselves use [`lent`].
+#![warn(missing_docs)]
+#![deny(unsafe_code)]
+
+#[cfg(not(target_pointer_width = "64"))]
+compile_error!("the archive of sporebasket is for processors with addresses of 64 bits");
+
+mod config;
+pub mod errors;
+pub mod events;
+pub mod lent;
+mod raw;
+pub mod reader;
+
+#[doc(inline)]
+pub use errors::{Error, IllFormedError, SyntaxError};
+#[doc(inline)]
+pub use events::{BytesCData, BytesDecl, BytesEnd, BytesPI, BytesRef, BytesStart, BytesText, Event, Part};
+pub use raw::{LONGEST, MOST_NAMES};
+#[doc(inline)]
+pub use reader::{Config, Phase, Reader};

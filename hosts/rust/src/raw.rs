@@ -1,0 +1,79 @@
+//! The functions of `include/sporebasket.h`, as they stand in the archive.
+//!
+//! Each takes a slice as a pointer and a count. A pointer is not null, even where the count is 0, and what is written to overlaps with
+//! nothing else that is lent; whatever the numbers are, the answer is the one that the header and `docs/PROMISES.md` state.
+//! [`lent`](crate::lent) and [`Reader`](crate::Reader) wrap them.
+
+extern "C" {
+    /// The settings of a reader to which none are given, a bit each.
+    pub fn sporebasket_default_settings() -> usize;
+
+    /// Makes a reader in `state`: 0, or the refusal's number.
+    pub fn sporebasket_new(
+        document: *const u8,
+        length: usize,
+        settings: usize,
+        state: *mut usize,
+        state_slots: usize,
+    ) -> usize;
+
+    /// Reads on, and writes the stack, the state and the answer: 0 for an event, or the refusal's number.
+    pub fn sporebasket_read_event(
+        document: *const u8,
+        length: usize,
+        stack: *mut usize,
+        stack_slots: usize,
+        state: *mut usize,
+        state_slots: usize,
+        answer: *mut usize,
+        answer_slots: usize,
+    ) -> usize;
+
+    /// Writes where the bytes of a span stand in the document: 0, or the refusal's number.
+    pub fn sporebasket_content(
+        document: *const u8,
+        length: usize,
+        from: usize,
+        to: usize,
+        part: *mut usize,
+        part_slots: usize,
+    ) -> usize;
+}
+
+/// The most bytes that a document may have.
+pub const LONGEST: usize = 16_777_216;
+
+/// The most names that may be open at once.
+pub const MOST_NAMES: usize = 4096;
+
+/// The slots of the stack that a name takes: its start and its end.
+pub const NAME_SLOTS: usize = 2;
+
+/// The slots of a reader's state: phase, position, depth, length and settings.
+pub const STATE_SLOTS: usize = 5;
+
+/// The slots of an answer: kind, number, place, piece, content, name, expected and found, a span in two slots.
+pub const ANSWER_SLOTS: usize = 12;
+
+/// The slots of a part of the document: its start and its end.
+pub const PART_SLOTS: usize = 2;
+
+/// The slots of a state, by their places.
+pub mod state {
+    pub const PHASE: usize = 0;
+    pub const POSITION: usize = 1;
+    pub const DEPTH: usize = 2;
+    pub const SETTINGS: usize = 4;
+}
+
+/// The slots of an answer, by their places; of a span, that of its start.
+pub mod answer {
+    pub const KIND: usize = 0;
+    pub const NUMBER: usize = 1;
+    pub const PLACE: usize = 2;
+    pub const PIECE: usize = 3;
+    pub const CONTENT: usize = 5;
+    pub const NAME: usize = 7;
+    pub const EXPECTED: usize = 8;
+    pub const FOUND: usize = 10;
+}

@@ -1,0 +1,117 @@
+//! Answers in the form that the repository's cases have them: `start 0 3 1 2 1 | text 3 1 1..2` is an event, and the phase, the position, the
+//! depth and the open names after it.
+#![allow(dead_code)]
+
+use sporebasket::{Config, Event, Phase, Reader};
+use std::ops::Range;
+
+pub fn word(event: &Event) -> &'static str {
+    match event {
+        Event::Start(_) => "start",
+        Event::End(_) => "end",
+        Event::Empty(_) => "empty",
+        Event::Text(_) => "text",
+        Event::GeneralRef(_) => "ref",
+        Event::Comment(_) => "comment",
+        Event::CData(_) => "cdata",
+        Event::Decl(_) => "decl",
+        Event::PI(_) => "pi",
+        Event::Eof => "eof",
+    }
+}
+
+fn spanned(range: Range<usize>) -> String {
+    format!("{}..{}", range.start, range.end)
+}
+
+/// The next answer.
+pub fn answer(reader: &mut Reader) -> String {
+    match reader.read_event() {
+        Ok(event) => {
+            let piece = reader.piece();
+            let (content, name) = match event.part() {
+                Some(part) => {
+                    assert_eq!(part.piece(), piece);
+                    assert_eq!(part.as_bytes(), &reader.document()[part.content()]);
+                    assert!(part.as_str().is_ok());
+                    (part.content(), part.name_len())
+                }
+                None => (piece.start..piece.start, 0),
+            };
+            let said = word(&event);
+            format!(
+                "{said} {} {} {} {} {name}",
+                piece.start, piece.end, content.start, content.end
+            )
+        }
+        Err(error) => {
+            let mut said = format!("refused {} {}", error.number(), reader.error_position());
+            said += &format!(" piece {}", spanned(reader.piece()));
+            if let Some(expected) = reader.expected() {
+                said += &format!(" expected {}", spanned(expected));
+            }
+            if let Some(found) = reader.found() {
+                said += &format!(" found {}", spanned(found));
+            }
+            said
+        }
+    }
+}
+
+/// Where a part of the document stands in it.
+fn place(document: &[u8], part: &[u8]) -> Range<usize> {
+    let from = part.as_ptr() as usize - document.as_ptr() as usize;
+    from..from + part.len()
+}
+
+/// The state: the phase, the position, the depth and the open names.
+pub fn state(reader: &Reader) -> String {
+    let phase = match reader.phase() {
+        Phase::Init => "init",
+        Phase::InsideText => "text",
+        Phase::InsideMarkup => "markup",
+        Phase::InsideRef => "ref",
+        Phase::InsideEmpty => "empty",
+        Phase::Done => "done",
+        other => panic!("{other:?}"),
+    };
+    let mut said = format!("{phase} {} {}", reader.buffer_position(), reader.depth());
+    for name in reader.open_names() {
+        said += &format!(" {}", spanned(place(reader.document(), name)));
+    }
+    said
+}
+
+/// The answers up to end of file, each with the state after it.
+pub fn run(reader: &mut Reader) -> Vec<String> {
+    let mut said = Vec::new();
+    for _ in 0..reader.document().len() + 2 {
+        let answer = answer(reader);
+        let line = format!("{answer} | {}", state(reader));
+        said.push(line);
+        if answer.starts_with("eof ") {
+            return said;
+        }
+    }
+    panic!("no end of file by call number length + 2: {said:?}");
+}
+
+/// Turns a flag over for each letter, or sets two as the letter says.
+pub fn set(config: &mut Config, letters: &str) {
+    for letter in letters.chars() {
+        match letter {
+            '-' => (),
+            'a' => config.allow_dangling_amp ^= true,
+            'u' => config.allow_unmatched_ends ^= true,
+            'c' => config.check_comments ^= true,
+            'n' => config.check_end_names ^= true,
+            'x' => config.expand_empty_elements ^= true,
+            'm' => config.trim_markup_names_in_closing_tags ^= true,
+            's' => config.trim_text_start ^= true,
+            'e' => config.trim_text_end ^= true,
+            'T' | 't' => config.trim_text(letter == 'T'),
+            'K' | 'k' => config.enable_all_checks(letter == 'K'),
+            other => panic!("no setting {other}"),
+        }
+    }
+}

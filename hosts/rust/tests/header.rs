@@ -1,0 +1,167 @@
+//! The numbers that `include/sporebasket.h` gives to C are those of the archive and of this package.
+
+use sporebasket::{lent, LONGEST, MOST_NAMES};
+use std::collections::HashMap;
+use std::fs;
+
+const HEADER: &str = concat!(env!("CARGO_MANIFEST_DIR"), "/../../include/sporebasket.h");
+
+/// The header's constants, by their names without `SPOREBASKET_`.
+struct Header(HashMap<String, usize>);
+
+impl Header {
+    fn read() -> Self {
+        let text = fs::read_to_string(HEADER).expect("the header");
+        let mut constants = HashMap::new();
+        for body in text.split("enum {").skip(1) {
+            let body = body.split('}').next().unwrap_or_default();
+            let mut next = 0;
+            for constant in body.split(',') {
+                let mut sides = constant.split('=').map(str::trim);
+                let name = sides.next().and_then(|name| name.strip_prefix("SPOREBASKET_"));
+                let value = sides.next().map_or(next, |value| value.parse().expect("a number"));
+                constants.insert(name.expect("a name").to_owned(), value);
+                next = value + 1;
+            }
+        }
+        Header(constants)
+    }
+
+    fn get(&self, name: &str) -> usize {
+        *self.0.get(name).unwrap_or_else(|| panic!("no {name} in the header"))
+    }
+
+    /// The state and the last answer after some calls, with the settings of these names.
+    fn after(&self, calls: usize, document: &[u8], settings: &[&str]) -> (Vec<usize>, Vec<usize>) {
+        let settings = settings.iter().map(|name| self.get(name)).sum();
+        let mut state = vec![0; self.get("STATE_SLOTS")];
+        let mut answer = vec![0; self.get("ANSWER_SLOTS")];
+        let mut stack = vec![0; self.get("NAME_SLOTS")];
+        assert_eq!(lent::new(document, settings, &mut state), 0);
+        for _ in 0..calls {
+            let number = lent::read_event(document, &mut stack, &mut state, &mut answer);
+            assert_eq!(number, answer[self.get("ANSWER_NUMBER")]);
+        }
+        (state, answer)
+    }
+}
+
+#[test]
+fn limits_and_slots() {
+    let header = Header::read();
+    assert_eq!(header.get("LONGEST"), LONGEST);
+    assert_eq!(header.get("MOST_NAMES"), MOST_NAMES);
+    assert_eq!(header.get("NAME_SLOTS"), lent::NAME_SLOTS);
+    assert_eq!(header.get("STATE_SLOTS"), lent::STATE_SLOTS);
+    assert_eq!(header.get("ANSWER_SLOTS"), lent::ANSWER_SLOTS);
+    assert_eq!(header.get("PART_SLOTS"), lent::PART_SLOTS);
+    let defaults = header.get("CHECK_END_NAMES") + header.get("TRIM_MARKUP_NAMES_IN_CLOSING_TAGS");
+    assert_eq!(lent::default_settings(), defaults);
+}
+
+#[test]
+fn kinds() {
+    let header = Header::read();
+    let rows: [(&str, &[u8], &[&str]); 12] = [
+        ("START", b"<a>", &[]),
+        ("START", b"<a/>", &["EXPAND_EMPTY_ELEMENTS"]),
+        ("END", b"</a>", &["ALLOW_UNMATCHED_ENDS"]),
+        ("EMPTY", b"<a/>", &[]),
+        ("TEXT", b"a", &[]),
+        ("TEXT", b"&", &["ALLOW_DANGLING_AMP"]),
+        ("GENERAL_REF", b"&a;", &[]),
+        ("COMMENT", b"<!---->", &[]),
+        ("CDATA", b"<![CDATA[]]>", &[]),
+        ("DECL", b"<?xml?>", &[]),
+        ("PI", b"<?a?>", &[]),
+        ("EOF", b"", &[]),
+    ];
+    for (kind, document, settings) in rows {
+        let (_, answer) = header.after(1, document, settings);
+        assert_eq!(answer[header.get("ANSWER_KIND")], header.get(kind), "{kind}");
+    }
+}
+
+#[test]
+fn refusals() {
+    let header = Header::read();
+    let rows: [(&str, usize, &[u8], &[&str]); 16] = [
+        ("UNCLOSED_TAG", 1, b"<", &[]),
+        ("UNCLOSED_SINGLE_QUOTED_ATTRIBUTE_VALUE", 1, b"<'", &[]),
+        ("UNCLOSED_DOUBLE_QUOTED_ATTRIBUTE_VALUE", 1, b"<\"", &[]),
+        ("UNCLOSED_COMMENT", 1, b"<!-", &[]),
+        ("UNCLOSED_CDATA", 1, b"<![", &[]),
+        ("UNCLOSED_PI", 1, b"<?", &[]),
+        ("UNCLOSED_XML_DECL", 1, b"<?xml", &[]),
+        ("INVALID_BANG_MARKUP", 1, b"<!", &[]),
+        ("DOUBLE_HYPHEN_IN_COMMENT", 1, b"<!----->", &["CHECK_COMMENTS"]),
+        ("MISMATCHED_END_TAG", 2, b"<a></b>", &["CHECK_END_NAMES"]),
+        ("MISMATCHED_END_TAG", 2, b"<a></a >", &["CHECK_END_NAMES"]),
+        ("UNMATCHED_END_TAG", 1, b"</a>", &[]),
+        ("UNCLOSED_REFERENCE", 1, b"&", &[]),
+        ("ENCODING", 1, b"\xFF", &[]),
+        ("DOCTYPE", 1, b"<!D", &[]),
+        ("NAME_STACK_FULL", 2, b"<a><b>", &[]),
+    ];
+    for (refusal, calls, document, settings) in rows {
+        let (_, answer) = header.after(calls, document, settings);
+        assert_eq!(answer[header.get("ANSWER_NUMBER")], header.get(refusal), "{refusal}");
+    }
+    let too_long = vec![0; header.get("LONGEST") + 1];
+    assert_eq!(lent::new(&too_long, 0, &mut [0; 5]), header.get("SLICE_TOO_LONG"));
+    assert_eq!(lent::new(b"", 0, &mut []), header.get("BAD_STATE"));
+}
+
+#[test]
+fn phases() {
+    let header = Header::read();
+    let rows: [(&str, usize, &[u8]); 6] = [
+        ("INIT", 0, b"a"),
+        ("INSIDE_TEXT", 1, b"<a>"),
+        ("INSIDE_MARKUP", 1, b"a<"),
+        ("INSIDE_REF", 1, b"a&"),
+        ("INSIDE_EMPTY", 1, b"<a/>"),
+        ("DONE", 1, b""),
+    ];
+    for (phase, calls, document) in rows {
+        let (state, _) = header.after(calls, document, &["EXPAND_EMPTY_ELEMENTS"]);
+        assert_eq!(state[header.get("STATE_PHASE")], header.get(phase), "{phase}");
+    }
+}
+
+#[test]
+fn slots_of_a_state_and_of_an_answer() {
+    let header = Header::read();
+    let settings = ["TRIM_TEXT_START", "TRIM_TEXT_END"];
+    let (state, answer) = header.after(1, b"  ab  <", &settings);
+    let slots = [("POSITION", 6), ("DEPTH", 0), ("LENGTH", 7), ("SETTINGS", 64 + 128)];
+    for (slot, value) in slots {
+        assert_eq!(state[header.get(&format!("STATE_{slot}"))], value, "{slot}");
+    }
+    let slots = [
+        ("PIECE_FROM", 2),
+        ("PIECE_TO", 6),
+        ("CONTENT_FROM", 2),
+        ("CONTENT_TO", 4),
+        ("PLACE", 0),
+    ];
+    for (slot, value) in slots {
+        assert_eq!(answer[header.get(&format!("ANSWER_{slot}"))], value, "{slot}");
+    }
+    let (state, answer) = header.after(1, b"<abc d>", &[]);
+    assert_eq!(
+        (state[header.get("STATE_DEPTH")], answer[header.get("ANSWER_NAME")]),
+        (1, 3)
+    );
+    let (_, answer) = header.after(2, b"<a></bc>", &["CHECK_END_NAMES"]);
+    let slots = [
+        ("PLACE", 3),
+        ("EXPECTED_FROM", 1),
+        ("EXPECTED_TO", 2),
+        ("FOUND_FROM", 5),
+        ("FOUND_TO", 7),
+    ];
+    for (slot, value) in slots {
+        assert_eq!(answer[header.get(&format!("ANSWER_{slot}"))], value, "{slot}");
+    }
+}

@@ -1,0 +1,106 @@
+//! The limits: the longest document, the most names, and slots that are too few.
+
+use sporebasket::{lent, Error, Event, Reader, LONGEST, MOST_NAMES};
+
+#[test]
+fn the_longest_document_is_read() {
+    let document = vec![b'a'; LONGEST];
+    let mut reader = Reader::from_reader(&document);
+    assert_eq!(reader.read_event().map(|event| event.as_bytes().len()), Ok(LONGEST));
+    assert_eq!(reader.read_event(), Ok(Event::Eof));
+    assert_eq!(reader.buffer_position(), LONGEST as u64);
+}
+
+#[test]
+fn a_byte_more_is_refused_by_every_call() {
+    let document = vec![b'<'; LONGEST + 1];
+    let mut reader = Reader::from_reader(&document);
+    for _ in 0..3 {
+        let error = reader.read_event().unwrap_err();
+        assert_eq!((&error, error.number()), (&Error::SliceTooLong, 16));
+        assert_eq!((reader.error_position(), reader.buffer_position()), (0, 0));
+        assert_eq!((reader.piece(), reader.depth()), (0..0, 0));
+        reader.config_mut().trim_text(true);
+    }
+    let mut state = [7; lent::STATE_SLOTS];
+    assert_eq!(lent::new(&document, 0, &mut state), 16);
+    assert_eq!(state, [7; lent::STATE_SLOTS]);
+}
+
+#[test]
+fn as_many_names_as_may_be_and_one_more() {
+    let document = "<a>".repeat(MOST_NAMES + 1);
+    for names in [MOST_NAMES, MOST_NAMES + 1, usize::MAX] {
+        let mut reader = Reader::with_capacity(document.as_bytes(), names);
+        for opened in 1..=MOST_NAMES {
+            assert!(matches!(reader.read_event(), Ok(Event::Start(_))));
+            assert_eq!(reader.depth(), opened);
+        }
+        assert_eq!(reader.read_event(), Err(Error::NameStackFull));
+        assert_eq!(reader.error_position(), 3 * MOST_NAMES as u64);
+        assert_eq!(reader.read_event(), Ok(Event::Eof));
+        assert_eq!(reader.open_names().len(), MOST_NAMES);
+        assert!(reader.open_names().all(|name| name == b"a"));
+    }
+}
+
+#[test]
+fn all_names_are_closed_again() {
+    let document = "<a>".repeat(MOST_NAMES) + &"</a>".repeat(MOST_NAMES);
+    let mut reader = Reader::from_str(&document);
+    let events: Vec<_> = (0..2 * MOST_NAMES).map(|_| reader.read_event()).collect();
+    assert!(events[..MOST_NAMES]
+        .iter()
+        .all(|event| matches!(event, Ok(Event::Start(_)))));
+    assert!(events[MOST_NAMES..]
+        .iter()
+        .all(|event| matches!(event, Ok(Event::End(_)))));
+    assert_eq!((reader.read_event(), reader.depth()), (Ok(Event::Eof), 0));
+}
+
+#[test]
+fn too_few_slots_are_refused() {
+    let document = b"<a>";
+    for slots in 0..lent::STATE_SLOTS {
+        let mut state = vec![9; slots];
+        assert_eq!(lent::new(document, 0, &mut state), 17);
+        let mut answer = [9; lent::ANSWER_SLOTS];
+        assert_eq!(lent::read_event(document, &mut [], &mut state, &mut answer), 17);
+        assert_eq!(state, vec![9; slots]);
+        assert_eq!(answer, [0, 17, 0, 0, 0, 0, 0, 0, 0, 0, 0, 0]);
+    }
+    for slots in 0..lent::ANSWER_SLOTS {
+        let (mut state, mut stack, mut answer) = ([0, 0, 0, 3, 40], [9; 4], vec![9; slots]);
+        assert_eq!(lent::read_event(document, &mut stack, &mut state, &mut answer), 17);
+        assert_eq!((state, stack, answer), ([0, 0, 0, 3, 40], [9; 4], vec![9; slots]));
+    }
+    for slots in 0..lent::PART_SLOTS {
+        let mut part = vec![9; slots];
+        assert_eq!(lent::content(document, 0, 1, &mut part), 17);
+        assert_eq!(part, vec![9; slots]);
+    }
+}
+
+#[test]
+fn slots_to_spare_are_left_alone() {
+    let document = b"<a>";
+    let (mut state, mut stack, mut answer) = ([9; 7], [9; 5], [9; 14]);
+    assert_eq!(lent::new(document, lent::default_settings(), &mut state), 0);
+    assert_eq!(lent::read_event(document, &mut stack, &mut state, &mut answer), 0);
+    assert_eq!(state, [1, 3, 1, 3, 40, 9, 9]);
+    assert_eq!(stack, [1, 2, 9, 9, 9]);
+    assert_eq!(answer, [1, 0, 0, 0, 3, 1, 2, 1, 0, 0, 0, 0, 9, 9]);
+}
+
+#[test]
+fn settings_that_are_none() {
+    let mut state = [0; lent::STATE_SLOTS];
+    assert_eq!(lent::new(b"a", usize::MAX, &mut state), 0);
+    assert_eq!(state, [0, 0, 0, 1, 255]);
+    let mut answer = [0; lent::ANSWER_SLOTS];
+    for bad in [[0, 0, 0, 1, 256], [6, 0, 0, 1, 40], [usize::MAX; 5]] {
+        let mut state = bad;
+        assert_eq!(lent::read_event(b"a", &mut [], &mut state, &mut answer), 17);
+        assert_eq!(state, bad);
+    }
+}

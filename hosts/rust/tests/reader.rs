@@ -1,0 +1,221 @@
+//! A reader as its user meets it: settings changed on the way, clones, threads, errors handed on, and what holds of any document.
+
+mod common;
+
+use sporebasket::{Error, Event, Reader};
+use std::thread;
+
+#[test]
+fn settings_change_between_calls() {
+    let mut reader = Reader::from_str("<a/> x <a/> x <b></c>");
+    let config = *reader.config();
+    assert_eq!(common::answer(&mut reader), "empty 0 4 1 2 1");
+    reader.config_mut().trim_text(true);
+    assert_eq!(common::answer(&mut reader), "text 5 7 5 6 0");
+    reader.config_mut().expand_empty_elements = true;
+    assert_eq!(common::answer(&mut reader), "start 7 11 8 9 1");
+    // the End of an expanded element is still owed
+    *reader.config_mut() = config;
+    assert_eq!(common::answer(&mut reader), "end 11 11 8 9 1");
+    assert_eq!(common::answer(&mut reader), "text 11 14 11 14 0");
+    assert_eq!(common::answer(&mut reader), "start 14 17 15 16 1");
+    reader.config_mut().check_end_names = false;
+    assert_eq!(common::answer(&mut reader), "end 17 21 19 20 1");
+    assert_eq!(common::answer(&mut reader), "eof 21 21 21 21 0");
+}
+
+#[test]
+fn end_of_file_stays() {
+    let mut reader = Reader::from_str("<a>");
+    assert_eq!(common::run(&mut reader).len(), 2);
+    for letters in ["-", "T", "u", "x"] {
+        common::set(reader.config_mut(), letters);
+        assert_eq!(reader.read_event(), Ok(Event::Eof));
+        assert_eq!((reader.buffer_position(), reader.depth()), (3, 1));
+    }
+}
+
+#[test]
+fn the_place_of_a_refusal_is_kept() {
+    let mut reader = Reader::from_str("a</b>c");
+    assert_eq!(reader.error_position(), 0);
+    assert!(reader.read_event().is_ok());
+    assert!(reader.read_event().is_err());
+    assert!(reader.read_event().is_ok());
+    assert_eq!((reader.error_position(), reader.piece()), (1, 5..6));
+    assert_eq!((reader.expected(), reader.found()), (None, None));
+}
+
+#[test]
+fn a_clone_reads_on_by_itself() {
+    let mut reader = Reader::from_str("<a><b></b></a>");
+    reader.read_event().unwrap();
+    let mut clone = reader.clone();
+    let rest = common::run(&mut reader);
+    assert_eq!((clone.depth(), reader.depth()), (1, 0));
+    assert_eq!(common::run(&mut clone), rest);
+}
+
+#[test]
+fn events_outlive_their_reader() {
+    let document = String::from("<a b='c'>");
+    let event = {
+        let mut reader = Box::new(Reader::from_str(&document));
+        let mut moved = *reader.clone();
+        assert_eq!(moved.read_event(), reader.read_event());
+        moved = *reader;
+        let names: Vec<&[u8]> = moved.open_names().collect();
+        drop(moved);
+        assert_eq!(names, [b"a"]);
+        Reader::from_str(&document).read_event().unwrap()
+    };
+    assert_eq!(event.as_ref(), b"a b='c'");
+}
+
+#[test]
+fn readers_go_to_other_threads() {
+    fn check<T: Send + Sync>(_: &T) {}
+    let document = "<a>".repeat(1000) + &"</a>".repeat(1000);
+    let wanted = common::run(&mut Reader::from_str(&document));
+    let mut begun = Reader::from_str(&document);
+    let first = common::answer(&mut begun);
+    check(&begun);
+    thread::scope(|scope| {
+        let workers: Vec<_> = (0..4)
+            .map(|_| {
+                let mut reader = begun.clone();
+                scope.spawn(move || common::run(&mut reader))
+            })
+            .collect();
+        for worker in workers {
+            assert_eq!(worker.join().unwrap(), wanted[1..]);
+        }
+    });
+    assert!(wanted[0].starts_with(&first));
+}
+
+#[test]
+fn errors_are_handed_on() {
+    fn names(document: &str) -> Result<Vec<String>, Box<dyn std::error::Error + Send + Sync>> {
+        let mut reader = Reader::from_str(document);
+        let mut names = Vec::new();
+        loop {
+            match reader.read_event()? {
+                Event::Start(tag) => names.push(std::str::from_utf8(tag.name())?.to_owned()),
+                Event::Eof => return Ok(names),
+                _ => (),
+            }
+        }
+    }
+    assert_eq!(names("<a><b></b></a>").unwrap(), ["a", "b"]);
+    assert_eq!(
+        names("<a></b>").unwrap_err().to_string(),
+        "`</b>` stands where `</a>` is due"
+    );
+    assert_eq!(names("<!DOCTYPE a>").unwrap_err().downcast_ref(), Some(&Error::DocType));
+}
+
+#[test]
+fn shown_for_debugging() {
+    let mut reader = Reader::from_str("<a>");
+    let event = reader.read_event().unwrap();
+    assert_eq!(format!("{event:?}"), "Start(BytesStart(\"a\" at 0..3))");
+    assert!(format!("{reader:?}").starts_with("Reader { phase: InsideText, position: 3, depth: 1, length: 3, "));
+}
+
+/// Numbers that look random, the same in every run.
+struct Numbers(u64);
+
+impl Numbers {
+    fn below(&mut self, bound: usize) -> usize {
+        self.0 = self
+            .0
+            .wrapping_mul(6364136223846793005)
+            .wrapping_add(1442695040888963407);
+        (self.0 >> 33) as usize % bound
+    }
+}
+
+const PIECES: &[&[u8]] = &[
+    b"<a>",
+    b"</a>",
+    b"<b c='>'>",
+    b"</b >",
+    b"<d/>",
+    b"text",
+    b" ",
+    b"\n",
+    b"&amp;",
+    b"&",
+    b";",
+    b"<",
+    b">",
+    b"/",
+    b"'",
+    b"\"",
+    b"<!--x-->",
+    b"<!--x--y-->",
+    b"<![CDATA[x]]>",
+    b"<?xml v?>",
+    b"<?p?>",
+    b"\xC3\xA9",
+    b"\xEF\xBB\xBF",
+    b"\xFF",
+    b"<!",
+    b"-->",
+    b"?>",
+    b"=",
+    b"!",
+    b"</",
+];
+
+/// What holds of every run, whatever the document and the settings.
+fn hold_to_the_theorems(document: &[u8], letters: &str, names: usize) {
+    let mut reader = Reader::with_capacity(document, names);
+    common::set(reader.config_mut(), letters);
+    let strays = reader.config().allow_unmatched_ends;
+    let mut open: Vec<&[u8]> = Vec::new();
+    let mut end = 0;
+    for _ in 0..document.len() + 2 {
+        let before = reader.buffer_position();
+        let event = reader.read_event();
+        match event {
+            Ok(Event::Start(tag)) => open.push(tag.name()),
+            Ok(Event::End(tag)) => {
+                let name = open.pop();
+                assert!(name.is_some() || strays);
+                assert!(name.is_none_or(|name| name == tag.name() || !reader.config().check_end_names));
+            }
+            Err(ref error) if error.number() == 10 => assert!(open.pop().is_some()),
+            Err(ref error) if error.number() == 11 => assert!(open.is_empty()),
+            _ => (),
+        }
+        assert!(reader.open_names().eq(open.iter().copied()));
+        assert_eq!(reader.depth(), open.len());
+        let piece = reader.piece();
+        assert!(end <= piece.start && piece.start <= piece.end && piece.end as u64 == reader.buffer_position());
+        assert!(before <= reader.buffer_position());
+        end = piece.end;
+        if let Ok(event) = event {
+            assert!(event.part().is_none_or(|part| part.as_str().is_ok()));
+            if event == Event::Eof {
+                return;
+            }
+        }
+    }
+    panic!("no end of file");
+}
+
+#[test]
+fn any_document_with_any_settings() {
+    let mut numbers = Numbers(1);
+    for turn in 0..20_000 {
+        let count = numbers.below(20);
+        let document: Vec<u8> = (0..count)
+            .flat_map(|_| PIECES[numbers.below(PIECES.len())].iter().copied())
+            .collect();
+        let letters: String = "aucnxmse".chars().filter(|_| numbers.below(3) == 0).collect();
+        let names = if turn % 4 == 0 { numbers.below(3) } else { 64 };
+        hold_to_the_theorems(&document, &letters, names);
+    }
+}

@@ -1,0 +1,164 @@
+//! The reader's cases of the repository (`crates/cases/stdout`), run through this package: whole documents by `Reader`, single calls from any
+//! state and contents by `lent`.
+
+mod common;
+
+use sporebasket::{lent, Config, Reader};
+use std::fs;
+
+const RECORDED: &str = concat!(env!("CARGO_MANIFEST_DIR"), "/../../crates/cases/stdout");
+
+const PHASES: [&str; 6] = ["init", "text", "markup", "ref", "empty", "done"];
+const KINDS: [&str; 10] = [
+    "start", "end", "empty", "text", "ref", "comment", "cdata", "decl", "pi", "eof",
+];
+const LETTERS: [char; 8] = ['a', 'u', 'c', 'n', 'x', 'm', 's', 'e'];
+
+/// The cases of this word: the words of the line, and the lines below it.
+fn cases(word: &str) -> Vec<(String, Vec<String>)> {
+    let text = fs::read_to_string(RECORDED).expect("the recorded cases");
+    let mut found: Vec<(String, Vec<String>)> = Vec::new();
+    let mut inside = false;
+    for line in text.lines() {
+        if let Some(answer) = line.strip_prefix("  ") {
+            if inside {
+                found.last_mut().expect("a case").1.push(answer.into());
+            }
+            continue;
+        }
+        let rest = line.strip_prefix(word).and_then(|rest| rest.strip_prefix(' '));
+        inside = rest.is_some();
+        if let Some(rest) = rest {
+            found.push((rest.into(), Vec::new()));
+        }
+    }
+    assert!(!found.is_empty(), "no case of {word}");
+    found
+}
+
+/// The bytes that are written with `\` and two hexadecimal digits for some.
+fn unescaped(text: &str) -> Vec<u8> {
+    let mut bytes = Vec::new();
+    let mut rest = text.as_bytes();
+    while let Some((first, after)) = rest.split_first() {
+        if *first == b'\\' {
+            let digits = std::str::from_utf8(&after[..2]).expect("two digits");
+            bytes.push(u8::from_str_radix(digits, 16).expect("two digits"));
+            rest = &after[2..];
+        } else {
+            bytes.push(*first);
+            rest = after;
+        }
+    }
+    bytes
+}
+
+fn number(text: &str) -> usize {
+    text.parse().expect("a number")
+}
+
+/// The settings as a number, by the letters that turn a flag over.
+fn settings(letters: &str) -> usize {
+    let mut config = Config::default();
+    common::set(&mut config, letters);
+    let flags = [
+        config.allow_dangling_amp,
+        config.allow_unmatched_ends,
+        config.check_comments,
+        config.check_end_names,
+        config.expand_empty_elements,
+        config.trim_markup_names_in_closing_tags,
+        config.trim_text_start,
+        config.trim_text_end,
+    ];
+    flags.iter().enumerate().map(|(i, on)| usize::from(*on) << i).sum()
+}
+
+/// The letters that turn the defaults to these settings.
+fn letters(settings: usize) -> String {
+    let turned = settings ^ lent::default_settings();
+    let on = |i: &usize| turned >> i & 1 == 1;
+    match turned {
+        0 => "-".into(),
+        _ => (0..8).filter(on).map(|i| LETTERS[i]).collect(),
+    }
+}
+
+/// An answer's numbers in words.
+fn told(answer: &[usize]) -> String {
+    if answer[0] != 0 {
+        let word = KINDS[answer[0] - 1];
+        return format!(
+            "{word} {} {} {} {} {}",
+            answer[3], answer[4], answer[5], answer[6], answer[7]
+        );
+    }
+    let mut said = format!("refused {} {} piece {}..{}", answer[1], answer[2], answer[3], answer[4]);
+    if answer[1] == 10 {
+        said += &format!(" expected {}..{}", answer[8], answer[9]);
+    }
+    if answer[1] == 10 || answer[1] == 11 {
+        said += &format!(" found {}..{}", answer[10], answer[11]);
+    }
+    said
+}
+
+#[test]
+fn whole_documents() {
+    for (line, mut answers) in cases("run") {
+        let words: Vec<&str> = line.splitn(3, ' ').collect();
+        let document = unescaped(words[2]);
+        let mut reader = Reader::with_capacity(&document, number(words[1]) / 2);
+        common::set(reader.config_mut(), words[0]);
+        let mut said = common::run(&mut reader);
+        said.extend(common::run(&mut reader));
+        answers.pop(); // the counts
+        assert_eq!(said, answers, "run {line}");
+    }
+}
+
+#[test]
+fn single_calls() {
+    for (line, answers) in cases("state") {
+        let words: Vec<&str> = line.splitn(8, ' ').collect();
+        let document = unescaped(words[7]);
+        let phase = PHASES.iter().position(|phase| *phase == words[1]).expect("a phase");
+        let mut state = [
+            phase,
+            number(words[2]),
+            number(words[3]),
+            number(words[4]),
+            settings(words[0]),
+        ];
+        let mut stack = vec![0; number(words[5])];
+        if words[6] != "-" {
+            for (slot, value) in stack.iter_mut().zip(words[6].split(',')) {
+                *slot = number(value);
+            }
+        }
+        let mut answer = [0; lent::ANSWER_SLOTS];
+        let refusal = lent::read_event(&document, &mut stack, &mut state, &mut answer);
+        assert_eq!(refusal, answer[1], "state {line}");
+        let [phase, position, depth, length, settings] = state;
+        let mut said = format!("{} | {} {}", told(&answer), letters(settings), PHASES[phase]);
+        said += &format!(" {position} {depth} {length} |");
+        for (slot, value) in stack.iter().enumerate().filter(|(_, value)| **value != 0) {
+            said += &format!(" {slot}={value}");
+        }
+        assert_eq!([said], answers[..], "state {line}");
+    }
+}
+
+#[test]
+fn contents() {
+    for (line, answers) in cases("content") {
+        let words: Vec<&str> = line.splitn(3, ' ').collect();
+        let document = unescaped(words[2]);
+        let mut part = [0; lent::PART_SLOTS];
+        assert_eq!(
+            lent::content(&document, number(words[0]), number(words[1]), &mut part),
+            0
+        );
+        assert_eq!(&document[part[0]..part[1]], unescaped(&answers[0]), "content {line}");
+    }
+}
