@@ -1,0 +1,417 @@
+//! Runs one case on both sides and compares them after every call, in every number and every slot that was lent.
+
+use crate::listed;
+use crate::ours::*;
+use crate::summary::Tally;
+use crate::theirs::{Seen, Theirs, THEIR_DOCTYPE};
+use quick_xml::utils::is_whitespace;
+
+/// What stands in every slot that nobody has to write.
+pub const CANARY: usize = 0xA5C3_5A3C_A5C3_5A3C;
+/// Slots behind those that are lent, looked at too.
+const MARGIN: usize = 8;
+/// A stack of more slots is looked at near its depth after a call, and in full at the case's end.
+const SMALL: usize = 64;
+
+/// An input: a document, the settings and the slots of the stack.
+#[derive(Clone, Copy)]
+pub struct Case<'a> {
+    pub document: &'a [u8],
+    pub settings: u8,
+    pub slots: usize,
+}
+
+/// A difference that is not listed: the call, from 1, and what differs, a bit of `FIELDS` each.
+#[derive(Clone, Copy, Debug, PartialEq, Eq)]
+pub struct Difference {
+    pub call: usize,
+    pub fields: u32,
+}
+
+/// A side did not come back from the case.
+pub const PANIC: Difference = Difference { call: 0, fields: 0 };
+
+/// Names of what can differ: the slots of an answer, then those of a state, then the rest.
+pub const FIELDS: [&str; 26] = [
+    "kind",
+    "number",
+    "place",
+    "piece start",
+    "piece end",
+    "content start",
+    "content end",
+    "name length",
+    "expected start",
+    "expected end",
+    "found start",
+    "found end",
+    "phase",
+    "position",
+    "depth",
+    "length",
+    "settings",
+    "returned number",
+    "stack",
+    "open names",
+    "bytes of a name",
+    "slot not to be written",
+    "eof too late or not to stay",
+    "leaving the domain",
+    "making a reader",
+    "part handed back",
+];
+const STATE_BITS: usize = ANSWER_SLOTS;
+const RETURNED: u32 = 1 << 17;
+const STACK: u32 = 1 << 18;
+const OPEN: u32 = 1 << 19;
+const BYTES: u32 = 1 << 20;
+const SLOT: u32 = 1 << 21;
+const LATE: u32 = 1 << 22;
+const LEAVING: u32 = 1 << 23;
+const MAKING: u32 = 1 << 24;
+const PART: u32 = 1 << 25;
+
+/// What the crate's side was before a call.
+pub struct Before {
+    pub phase: usize,
+    pub position: usize,
+    pub depth: usize,
+    pub place: usize,
+}
+
+impl Before {
+    fn of(theirs: &Theirs) -> Self {
+        Self { phase: theirs.phase(), position: theirs.position(), depth: theirs.depth(), place: theirs.place() }
+    }
+
+    /// Where the piece of the coming call starts: behind a byte order mark, and behind white space that is skipped.
+    fn start(&self, case: &Case, mark: usize) -> usize {
+        let at = self.position + mark;
+        if case.settings & TRIM_START == 0 || !matches!(self.phase, INIT | TEXT_PHASE) {
+            return at;
+        }
+        let rest = &case.document[at..];
+        at + rest.iter().take_while(|&&b| is_whitespace(b)).count()
+    }
+}
+
+pub struct Bench<E> {
+    pub engine: E,
+    stack: Vec<usize>,
+    /// What the stack has to be.
+    shadow: Vec<usize>,
+    /// How many names the case had open at most.
+    most: usize,
+    state: [usize; STATE_SLOTS + MARGIN],
+    answer: [usize; ANSWER_SLOTS + MARGIN],
+}
+
+impl<E: Engine> Bench<E> {
+    pub fn new(engine: E) -> Self {
+        Self {
+            engine,
+            stack: Vec::new(),
+            shadow: Vec::new(),
+            most: 0,
+            state: [CANARY; STATE_SLOTS + MARGIN],
+            answer: [CANARY; ANSWER_SLOTS + MARGIN],
+        }
+    }
+
+    /// Runs a case to its second Eof, or to where it leaves the domain of equality.
+    pub fn run(&mut self, case: &Case, tally: &mut Tally) -> Result<(), Difference> {
+        tally.inputs += 1;
+        let result = self.steps(case, tally);
+        self.wipe(case, result.is_err());
+        result
+    }
+
+    fn steps(&mut self, case: &Case, tally: &mut Tally) -> Result<(), Difference> {
+        if !self.make(case)? {
+            tally.left[TOO_LONG - DOCTYPE] += 1;
+            return Ok(());
+        }
+        let mut theirs = Theirs::new(case.document, case.settings);
+        let mut eofs = 0;
+        let mut call = 0;
+        while eofs < 2 {
+            call += 1;
+            let returned = self.read(case);
+            let number = self.answer[NUMBER];
+            if number == DOCTYPE || number == STACK_FULL {
+                return self.leave(case, &mut theirs, call, returned, tally);
+            }
+            let before = Before::of(&theirs);
+            let seen = theirs.read();
+            let mut fields = self.compare(case, &before, &theirs, &seen, returned);
+            if fields & STACK == 0 && !self.names_hold(case, &theirs, call) {
+                fields |= OPEN;
+            }
+            if fields != 0 {
+                let told = listed::Told { case, answer: &self.answer, before: &before, theirs: &theirs, seen: &seen };
+                let row = listed::which(fields, &told).ok_or(Difference { call, fields })?;
+                tally.listed[row] += 1;
+            }
+            tally.calls += 1;
+            tally.kinds[seen.kind] += 1;
+            tally.numbers[seen.number] += 1;
+            let ended = seen.kind == EOF;
+            if !ended && (eofs > 0 || call > case.document.len() + 1) {
+                return Err(Difference { call, fields: LATE });
+            }
+            eofs += ended as usize;
+        }
+        self.whole_stack(case, call)
+    }
+
+    /// Makes a reader: false if the document is too long, as it then has to say.
+    fn make(&mut self, case: &Case) -> Result<bool, Difference> {
+        self.lend(case.slots);
+        self.state = [CANARY; STATE_SLOTS + MARGIN];
+        self.answer = [CANARY; ANSWER_SLOTS + MARGIN];
+        let length = case.document.len();
+        let slots = state_slots(case);
+        let returned = self.engine.make(case.document, case.settings.into(), &mut self.state[..slots]);
+        let mut wanted = [CANARY; STATE_SLOTS + MARGIN];
+        if length <= LONGEST {
+            wanted[..STATE_SLOTS].copy_from_slice(&[INIT, 0, 0, length, case.settings.into()]);
+        }
+        let number = if length <= LONGEST { 0 } else { TOO_LONG };
+        if returned != number || self.state != wanted {
+            return Err(Difference { call: 0, fields: MAKING });
+        }
+        Ok(length <= LONGEST)
+    }
+
+    fn read(&mut self, case: &Case) -> usize {
+        self.answer[..ANSWER_SLOTS].fill(CANARY);
+        self.engine.read(
+            case.document,
+            &mut self.stack[..case.slots],
+            &mut self.state[..state_slots(case)],
+            &mut self.answer[..ANSWER_SLOTS + state_slots(case) - STATE_SLOTS],
+        )
+    }
+
+    fn lend(&mut self, slots: usize) {
+        if self.stack.len() < slots + MARGIN {
+            self.stack.resize(slots + MARGIN, CANARY);
+            self.shadow.resize(slots + MARGIN, CANARY);
+        }
+    }
+
+    /// Puts the canaries back.
+    fn wipe(&mut self, case: &Case, all: bool) {
+        let end = if all { case.slots + MARGIN } else { 2 * self.most };
+        self.stack[..end].fill(CANARY);
+        self.shadow[..end].fill(CANARY);
+        self.most = 0;
+    }
+
+    /// What differs after a call, 0 for nothing.
+    fn compare(&mut self, case: &Case, before: &Before, theirs: &Theirs, seen: &Seen, returned: usize) -> u32 {
+        let depth = theirs.depth();
+        if seen.kind == START && before.depth < capacity(case.slots) {
+            let (from, _) = seen.content.unwrap_or_default();
+            self.shadow[2 * before.depth] = from;
+            self.shadow[2 * before.depth + 1] = from + seen.name;
+            self.most = self.most.max(depth);
+        }
+        let wanted = self.wanted(case, before, theirs, seen);
+        let state = [theirs.phase(), theirs.position() + theirs.mark, depth, case.document.len(), case.settings.into()];
+        let mut fields = bits(&self.answer, &wanted, 0) | bits(&self.state, &state, STATE_BITS);
+        if returned != wanted[NUMBER] {
+            fields |= RETURNED;
+        }
+        if !self.stack_holds(case, depth) {
+            fields |= STACK;
+        }
+        if !self.bytes_hold(case, before, seen, &wanted) {
+            fields |= BYTES;
+        }
+        let (from, to) = (self.answer[CONTENT_FROM], self.answer[CONTENT_TO]);
+        if content(case.document, from, to) != (0, [from, to]) {
+            fields |= PART;
+        }
+        fields | self.margins()
+    }
+
+    /// The answer that ours has to be, from the crate's.
+    fn wanted(&self, case: &Case, before: &Before, theirs: &Theirs, seen: &Seen) -> [usize; ANSWER_SLOTS] {
+        let mut wanted = [0; ANSWER_SLOTS];
+        let start = start_of(case, before, theirs, seen);
+        wanted[KIND] = seen.kind;
+        wanted[NUMBER] = seen.number;
+        wanted[PIECE_FROM] = start;
+        wanted[PIECE_TO] = theirs.position() + theirs.mark;
+        if seen.number != 0 {
+            wanted[PLACE] = theirs.place() + theirs.mark;
+        } else {
+            let (from, to) = match seen.content {
+                Some(content) => content,
+                None if seen.kind == END => self.top(before.depth),
+                None => (start, start),
+            };
+            wanted[CONTENT_FROM] = from;
+            wanted[CONTENT_TO] = to;
+            wanted[NAME] = seen.name;
+        }
+        if seen.number == MISMATCHED {
+            (wanted[EXPECTED_FROM], wanted[EXPECTED_TO]) = self.top(before.depth);
+        }
+        if seen.number == MISMATCHED || seen.number == UNMATCHED_END {
+            wanted[FOUND_FROM] = start + 2;
+            wanted[FOUND_TO] = start + 2 + seen.found.len();
+        }
+        wanted
+    }
+
+    /// The span of the innermost of so many open names.
+    fn top(&self, depth: usize) -> (usize, usize) {
+        match self.shadow.get((2 * depth).wrapping_sub(2)..2 * depth) {
+            Some(pair) => (pair[0], pair[1]),
+            None => (0, 0),
+        }
+    }
+
+    /// Names that the crate holds as strings of its own are, byte for byte, the spans that ours has to give.
+    fn bytes_hold(&self, case: &Case, before: &Before, seen: &Seen, wanted: &[usize]) -> bool {
+        let is = |from: usize, to: usize, name: &str| case.document.get(from..to) == Some(name.as_bytes());
+        match (seen.kind, seen.number) {
+            (END, _) if seen.content.is_none() => is(wanted[CONTENT_FROM], wanted[CONTENT_TO], &seen.made),
+            (_, MISMATCHED) => {
+                before.depth > 0
+                    && is(wanted[EXPECTED_FROM], wanted[EXPECTED_TO], &seen.made)
+                    && is(wanted[FOUND_FROM], wanted[FOUND_TO], &seen.found)
+            }
+            (_, UNMATCHED_END) => is(wanted[FOUND_FROM], wanted[FOUND_TO], &seen.found),
+            _ => true,
+        }
+    }
+
+    /// The stack is what it has to be, a large one near its depth and at both ends.
+    fn stack_holds(&self, case: &Case, depth: usize) -> bool {
+        let same = |from: usize, to: usize| self.stack[from..to] == self.shadow[from..to];
+        let end = case.slots + MARGIN;
+        if case.slots <= SMALL {
+            return same(0, end);
+        }
+        let low = (2 * depth).saturating_sub(6).min(end);
+        same(0, 4) && same(low, (2 * depth + 6).min(end)) && same(end - MARGIN - 4, end)
+    }
+
+    fn whole_stack(&self, case: &Case, call: usize) -> Result<(), Difference> {
+        let end = case.slots + MARGIN;
+        if self.stack[..end] != self.shadow[..end] {
+            return Err(Difference { call, fields: STACK });
+        }
+        Ok(())
+    }
+
+    /// The open names of the crate are the spans on our stack, in order; of many names all in every 64th call, else the innermost.
+    fn names_hold(&self, case: &Case, theirs: &Theirs, call: usize) -> bool {
+        let (names, starts) = theirs.open_names();
+        if starts.len() > capacity(case.slots) {
+            return false;
+        }
+        let outer = if starts.len() <= SMALL || call.is_multiple_of(64) { 0 } else { starts.len() - 8 };
+        let mut end = names.len();
+        for (&start, span) in starts.iter().zip(self.stack.chunks_exact(2)).skip(outer).rev() {
+            if case.document.get(span[0]..span[1]) != names.as_bytes().get(start..end) {
+                return false;
+            }
+            end = start;
+        }
+        outer > 0 || end == 0
+    }
+
+    /// Slots behind those that an answer and a state have.
+    fn margins(&self) -> u32 {
+        let kept = |slots: &[usize]| slots.iter().all(|&slot| slot == CANARY);
+        if kept(&self.state[STATE_SLOTS..]) && kept(&self.answer[ANSWER_SLOTS..]) {
+            return 0;
+        }
+        SLOT
+    }
+
+    /// Ours answered 14 or 15: it has to be right to, leave everything as it was, and be at its end.
+    fn leave(&mut self, case: &Case, theirs: &mut Theirs, call: usize, returned: usize, tally: &mut Tally) -> Result<(), Difference> {
+        let before = Before::of(theirs);
+        let number = self.answer[NUMBER];
+        let start = before.start(case, theirs.mark);
+        let skipped = start + theirs.rest().len() - case.document.len();
+        let opens = matches!(theirs.rest().get(skipped..skipped + 3), Some(b"<!D" | b"<!d"));
+        let seen = theirs.read();
+        let right = if number == DOCTYPE {
+            opens && matches!(seen.number, THEIR_DOCTYPE | ENCODING)
+        } else {
+            before.depth == capacity(case.slots) && seen.kind == START && seen.content.is_some_and(|c| c.0 == start + 1)
+        };
+        let mut wanted = [0; ANSWER_SLOTS];
+        wanted[NUMBER] = number;
+        (wanted[PLACE], wanted[PIECE_FROM], wanted[PIECE_TO]) = (start, start, start);
+        let state = [DONE, start, before.depth, case.document.len(), case.settings.into()];
+        let mut fields = bits(&self.answer, &wanted, 0) | bits(&self.state, &state, STATE_BITS) | self.margins();
+        if !right || returned != number {
+            fields |= LEAVING;
+        }
+        if fields == 0 {
+            fields = self.stays(case, &state, start);
+        }
+        if fields != 0 {
+            return Err(Difference { call, fields });
+        }
+        tally.calls += 2;
+        tally.left[number - DOCTYPE] += 1;
+        self.whole_stack(case, call)
+    }
+
+    /// After 14 and 15 ours answers Eof, and changes nothing.
+    fn stays(&mut self, case: &Case, state: &[usize], at: usize) -> u32 {
+        let returned = self.read(case);
+        let wanted = [EOF, 0, 0, at, at, at, at, 0, 0, 0, 0, 0];
+        let fields = bits(&self.answer, &wanted, 0) | bits(&self.state, state, STATE_BITS) | self.margins();
+        if returned != 0 {
+            return fields | RETURNED;
+        }
+        fields
+    }
+}
+
+/// The state and the answer are lent with as many slots as they have, or, for a document of odd length, with more.
+fn state_slots(case: &Case) -> usize {
+    STATE_SLOTS + if case.document.len() % 2 == 1 { MARGIN / 2 } else { 0 }
+}
+
+/// Where the piece starts: told by where the crate's content lies, or by its place of a refusal. The crate has nothing to tell it by for
+/// Eof, 9, and 13 in text or a reference: there it is where the call before stopped, with what is skipped.
+fn start_of(case: &Case, before: &Before, theirs: &Theirs, seen: &Seen) -> usize {
+    let opener = match seen.kind {
+        TEXT => 0,
+        START | EMPTY | REF => 1,
+        END | DECL | PI => 2,
+        COMMENT => 4,
+        CDATA => 9,
+        _ => 0,
+    };
+    match (seen.content, seen.number) {
+        (Some((from, _)), _) => from.wrapping_sub(opener),
+        (None, 0 | DOUBLE_HYPHEN) => before.start(case, theirs.mark),
+        (None, ENCODING) => {
+            let start = before.start(case, theirs.mark);
+            if case.document.get(start) == Some(&b'<') {
+                return theirs.place() + theirs.mark;
+            }
+            start
+        }
+        (None, _) => theirs.place() + theirs.mark,
+    }
+}
+
+/// A bit for each slot that is not as wanted.
+fn bits(slots: &[usize], wanted: &[usize], first: usize) -> u32 {
+    if slots[..wanted.len()] == *wanted {
+        return 0;
+    }
+    (0..wanted.len()).filter(|&i| slots[i] != wanted[i]).map(|i| 1 << (first + i)).sum()
+}

@@ -1,0 +1,198 @@
+//! Faults put between the archive and the comparison, each of which the comparison has to notice.
+
+mod list;
+
+use crate::inputs::{self, Amount, Family};
+use crate::ours::*;
+use crate::run::Worker;
+use std::sync::atomic::{AtomicUsize, Ordering::Relaxed};
+use std::sync::Mutex;
+
+/// A fault: the settings that the reader goes by in place of those given, when an answer is changed, and how.
+pub struct Fault {
+    name: &'static str,
+    settings: fn(u8) -> u8,
+    when: fn(&Call) -> bool,
+    then: fn(&mut Call),
+}
+
+const fn flag(name: &'static str, settings: fn(u8) -> u8) -> Fault {
+    Fault { name, settings, when: |_| false, then: |_| () }
+}
+
+const fn act(name: &'static str, when: fn(&Call) -> bool, then: fn(&mut Call)) -> Fault {
+    Fault { name, settings: |s| s, when, then }
+}
+
+/// A call that was answered, for a fault to change.
+pub struct Call<'a> {
+    document: &'a [u8],
+    /// The state before the call.
+    before: [usize; STATE_SLOTS],
+    stack: &'a mut [usize],
+    state: &'a mut [usize],
+    answer: &'a mut [usize],
+    returned: Option<usize>,
+    /// The place of the last refusal before, and how many answers were Eof.
+    last_place: usize,
+    eofs: usize,
+}
+
+impl Call<'_> {
+    fn kind(&self) -> usize {
+        self.answer[KIND]
+    }
+
+    fn number(&self) -> usize {
+        self.answer[NUMBER]
+    }
+
+    fn on(&self, setting: u8) -> bool {
+        self.before[SETTINGS] & setting as usize != 0
+    }
+
+    fn part(&self, slot: usize) -> &[u8] {
+        self.document.get(self.answer[slot]..self.answer[slot + 1]).unwrap_or_default()
+    }
+
+    fn piece(&self) -> &[u8] {
+        self.part(PIECE_FROM)
+    }
+
+    fn content(&self) -> &[u8] {
+        self.part(CONTENT_FROM)
+    }
+
+    /// What stands in the document from the piece's start on.
+    fn rest(&self) -> &[u8] {
+        self.document.get(self.answer[PIECE_FROM]..).unwrap_or_default()
+    }
+
+    /// Moves to where the piece is to end.
+    fn go(&mut self, to: usize, phase: usize) {
+        self.answer[PIECE_TO] = to;
+        self.state[POSITION] = to;
+        self.state[PHASE] = phase;
+    }
+
+    /// Makes the answer an event whose piece has so many bytes, and whose content is without so many at both ends.
+    fn event(&mut self, kind: usize, length: usize, cut: (usize, usize), name: usize) {
+        let from = self.answer[PIECE_FROM];
+        self.answer[..ANSWER_SLOTS].fill(0);
+        self.answer[KIND] = kind;
+        self.answer[PIECE_FROM] = from;
+        self.answer[CONTENT_FROM] = from + cut.0;
+        self.answer[CONTENT_TO] = from + length - cut.1;
+        self.answer[NAME] = name;
+        self.go(from + length, TEXT_PHASE);
+    }
+
+    /// Makes the answer a refusal whose piece has so many bytes.
+    fn refuse(&mut self, number: usize, length: usize) {
+        let from = self.answer[PIECE_FROM];
+        self.answer[..ANSWER_SLOTS].fill(0);
+        self.answer[NUMBER] = number;
+        self.answer[PLACE] = from;
+        self.answer[PIECE_FROM] = from;
+        self.go(from + length, DONE);
+    }
+
+    /// Ill-formed text becomes Text, if it is well formed but for the bytes that this finds.
+    fn accept(&mut self, length: usize, found: fn(&[u8]) -> bool) {
+        let piece = self.piece();
+        let Some(at) = piece.windows(length).position(found) else { return };
+        let fine = |bytes: &[u8]| std::str::from_utf8(bytes).is_ok();
+        if fine(&piece[..at]) && fine(&piece[at + length..]) {
+            self.event(TEXT, piece.len(), (0, 0), 0);
+        }
+    }
+
+    /// How many bytes of the piece are well formed.
+    fn well_formed(&self) -> usize {
+        std::str::from_utf8(self.piece()).map_or_else(|e| e.valid_up_to(), str::len)
+    }
+
+    /// How many bytes the piece has up to its first `>`.
+    fn first_close(&self) -> usize {
+        self.piece().iter().take_while(|&&b| b != b'>').count() + 1
+    }
+
+    /// The piece has a `>` before the one that ends it.
+    fn quoted(&self) -> bool {
+        self.first_close() < self.piece().len()
+    }
+}
+
+/// The archive with a fault.
+struct Faulty {
+    fault: &'static Fault,
+    last_place: usize,
+    eofs: usize,
+}
+
+impl Engine for Faulty {
+    fn make(&mut self, document: &[u8], settings: usize, state: &mut [usize]) -> usize {
+        (self.last_place, self.eofs) = (0, 0);
+        Archive.make(document, settings, state)
+    }
+
+    fn read(&mut self, document: &[u8], stack: &mut [usize], state: &mut [usize], answer: &mut [usize]) -> usize {
+        let mut before = [0; STATE_SLOTS];
+        before.copy_from_slice(&state[..STATE_SLOTS]);
+        state[SETTINGS] = (self.fault.settings)(before[SETTINGS] as u8).into();
+        Archive.read(document, stack, state, answer);
+        state[SETTINGS] = before[SETTINGS];
+        let (last_place, eofs) = (self.last_place, self.eofs);
+        let mut call = Call { document, before, stack, state, answer, returned: None, last_place, eofs };
+        if (self.fault.when)(&call) {
+            (self.fault.then)(&mut call);
+        }
+        let returned = call.returned.unwrap_or(call.answer[NUMBER]);
+        if answer[NUMBER] > 0 {
+            self.last_place = answer[PLACE];
+        }
+        self.eofs += (answer[KIND] == EOF) as usize;
+        returned
+    }
+}
+
+/// Runs the quick inputs until a fault is noticed: after how many inputs, by which family.
+fn notice(fault: &'static Fault, families: &[Family]) -> Option<(u64, &'static str)> {
+    let mut worker = Worker::new(Faulty { fault, last_place: 0, eofs: 0 }, true);
+    for family in families {
+        for job in 0..family.jobs {
+            if worker.job(family, job).is_break() {
+                return Some((worker.tally.inputs, family.name));
+            }
+        }
+    }
+    None
+}
+
+/// Tries every fault: true if all are noticed.
+pub fn run(seed: u64) -> bool {
+    let faults: Vec<&'static Fault> = list::ALL.iter().copied().flatten().collect();
+    let families = inputs::all(Amount::Quick, seed);
+    let next = AtomicUsize::new(0);
+    let noticed = Mutex::new(0);
+    let work = || {
+        while let Some(fault) = faults.get(next.fetch_add(1, Relaxed)) {
+            let result = notice(fault, &families);
+            let mut noticed = noticed.lock().unwrap();
+            match result {
+                Some((inputs, family)) => {
+                    *noticed += 1;
+                    println!("noticed after {inputs} inputs, by \"{family}\": {}", fault.name);
+                }
+                None => println!("NOT noticed: {}", fault.name),
+            }
+        }
+    };
+    std::thread::scope(|scope| {
+        scope.spawn(work);
+        scope.spawn(work);
+    });
+    let noticed = noticed.into_inner().unwrap();
+    println!("compare: {noticed} of {} faults noticed", faults.len());
+    noticed == faults.len()
+}

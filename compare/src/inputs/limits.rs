@@ -1,0 +1,104 @@
+//! The limits: names up to the capacity and one more, long documents, and documents of the greatest length and beyond.
+
+use super::*;
+
+pub fn families(amount: Amount) -> Vec<Family> {
+    vec![short(), deep(), long(amount), longest(amount)]
+}
+
+/// No bytes and one byte, under all settings and small stacks.
+fn short() -> Family {
+    Family::new("no byte and one byte", 257, |job, sink| {
+        let byte = [job.wrapping_sub(1) as u8];
+        let document: &[u8] = if job == 0 { b"" } else { &byte };
+        (0..=5).try_for_each(|slots| sink.each(document, &every(), slots))
+    })
+}
+
+/// As many names open as the stack holds, one fewer and one more, closed again or not.
+fn deep() -> Family {
+    let sizes: Vec<usize> = (0..=40).chain([63, 64, 65, 127, 128, 200, 8190, 8191, 8192, 8193, 8194, 8199, 8200, 9000]).collect();
+    Family::new("names up to the capacity", sizes.len(), move |job, sink| {
+        let slots = sizes[job];
+        let full = capacity(slots);
+        let settings: &[u8] = if slots > 1000 { &[DEFAULT, DEFAULT | EXPAND] } else { &[DEFAULT, !DEFAULT, DEFAULT | EXPAND, 0, 255] };
+        for names in [full.saturating_sub(1), full, full + 1] {
+            for name in ["a", "", "n\u{e9}me x='1'"] {
+                let opened = format!("<{name}>").repeat(names);
+                let closer = format!("</{}>", name.split(' ').next().unwrap_or_default());
+                sink.each(opened.as_bytes(), settings, slots)?;
+                sink.each(format!("{opened}<e/>").as_bytes(), settings, slots)?;
+                sink.each(format!("{opened}t<e/>{}", closer.repeat(names + 1)).as_bytes(), settings, slots)?;
+                sink.each(format!("{opened}</x>{closer}<y>").as_bytes(), settings, slots)?;
+            }
+        }
+        ON
+    })
+}
+
+/// What a long document is made of, again and again, and what comes behind it.
+const REPEATED: &[(&[u8], &[u8])] = &[
+    (b"text ", b""),
+    (b" ", b"t"),
+    (b"<a>t</a>", b"</a>"),
+    (b"<a/>", b"<b"),
+    (b"&r;", b"&"),
+    (b"& ", b"<a>"),
+    (b"<!--c-->", b"<!--"),
+    (b"<![CDATA[d]]>", b"<![CDATA["),
+    (b"<?p i?>\n", b"<?xml"),
+    (b"\xC3\xA9", b"\xC3"),
+    (b"</a>", b"\xFF"),
+];
+
+/// What a document begins with, is made of, and ends with.
+const ENDS: &[(&[u8], &[u8], &[u8])] = &[
+    (b"", b"t", b""),
+    (b"<a>", b"t ", b"</a>"),
+    (b"<a b='", b"v", b"'/>"),
+    (b"<!--", b"c", b"-->"),
+    (b"<![CDATA[", b"d", b"]]>"),
+    (b"<?p ", b"i", b"?>"),
+    (b"<", b"n", b""),
+    (b"&", b"r", b";"),
+    (b"", b" \r\n\t", b""),
+    (b"\xEF\xBB\xBF", b"\xE2\x82\xAC", b"<a>"),
+    (b"<r>", b"<stop n=\"1\">06:15</stop>\n", b"</r>"),
+    (b"", b"<a></b>", b""),
+    (b"<a b=\"", b"\xC3\xA9", b"\xC3"),
+];
+
+/// A document of exactly this length: the head, the part again and again, and the tail.
+fn made(head: &[u8], part: &[u8], tail: &[u8], length: usize) -> Vec<u8> {
+    let mut document = head.to_vec();
+    document.extend(part.iter().cycle().take(length.saturating_sub(head.len() + tail.len())));
+    document.extend(tail);
+    document
+}
+
+/// Lengths around 4,096 and 65,536, where a count might run over.
+fn long(amount: Amount) -> Family {
+    let lengths: Vec<usize> = [4096usize, 8192, 65_536, 70_000].into_iter().flat_map(|n| n - 2..=n + 2).collect();
+    let settings = amount.of(several()[..4].to_vec(), several());
+    Family::new("long documents", (REPEATED.len() + ENDS.len()) * lengths.len(), move |job, sink| {
+        let (which, length) = (job / lengths.len(), lengths[job % lengths.len()]);
+        if which >= REPEATED.len() {
+            let (head, part, tail) = ENDS[which - REPEATED.len()];
+            return sink.each(&made(head, part, tail, length), &settings, 8);
+        }
+        let (part, tail) = REPEATED[which];
+        sink.each(&made(b"", part, tail, length), &settings, 8)?;
+        sink.each(&made(b"<a 'b' ", part, b">", length), &settings, 8)?;
+        sink.each(&made(b"\xEF\xBB\xBF<r>", part, b"</r>", length), &settings, 8)
+    })
+}
+
+/// Documents of 16,777,216 bytes, one fewer, and one more, which ours refuses to make a reader of.
+fn longest(amount: Amount) -> Family {
+    let settings = amount.of(vec![DEFAULT], vec![DEFAULT, !DEFAULT, DEFAULT | TRIM_START | TRIM_END]);
+    let documents = amount.of(3, ENDS.len());
+    Family::new("documents of the greatest length", 3 * documents, move |job, sink| {
+        let (head, part, tail) = ENDS[job / 3];
+        sink.each(&made(head, part, tail, LONGEST - 1 + job % 3), &settings, 64)
+    })
+}

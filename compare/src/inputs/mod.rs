@@ -1,0 +1,99 @@
+//! The families of inputs. Each is cut into jobs that can be run in any order; a job gives its cases to a sink, always the same ones.
+
+mod blocks;
+mod exhaustive;
+mod files;
+mod limits;
+mod places;
+pub mod random;
+mod utf8;
+
+use crate::ours::*;
+use std::ops::ControlFlow;
+use std::path::PathBuf;
+
+/// `Break` when the sink wants no more.
+pub type Flow = ControlFlow<()>;
+pub const ON: Flow = Flow::Continue(());
+
+/// Where cases go.
+pub trait Sink {
+    fn case(&mut self, document: &[u8], settings: u8, slots: usize) -> Flow;
+
+    fn each(&mut self, document: &[u8], settings: &[u8], slots: usize) -> Flow {
+        settings.iter().try_for_each(|&settings| self.case(document, settings, slots))
+    }
+}
+
+type Job = Box<dyn Fn(usize, &mut dyn Sink) -> Flow + Send + Sync>;
+
+pub struct Family {
+    pub name: &'static str,
+    pub jobs: usize,
+    pub run: Job,
+}
+
+impl Family {
+    fn new(name: &'static str, jobs: usize, run: impl Fn(usize, &mut dyn Sink) -> Flow + Send + Sync + 'static) -> Self {
+        Self { name, jobs, run: Box::new(run) }
+    }
+}
+
+/// How much is run.
+#[derive(Clone, Copy, PartialEq, Eq)]
+pub enum Amount {
+    Quick,
+    Full,
+}
+
+impl Amount {
+    /// One of two numbers.
+    pub fn of<T>(self, quick: T, full: T) -> T {
+        match self {
+            Amount::Quick => quick,
+            Amount::Full => full,
+        }
+    }
+}
+
+/// Every family, in the order in which they are run.
+pub fn all(amount: Amount, seed: u64) -> Vec<Family> {
+    let mut families = places::families(amount);
+    families.extend(limits::families(amount));
+    families.extend(exhaustive::families(amount));
+    families.extend(blocks::families(amount));
+    families.extend(utf8::families(amount));
+    families.extend(random::families(amount, seed));
+    families.extend(files::families(files::found(amount)));
+    families
+}
+
+/// The files named, and nothing else.
+pub fn of_files(paths: Vec<PathBuf>) -> Vec<Family> {
+    files::families(paths)
+}
+
+/// The settings whose bits beyond these are the default's, in every combination of these.
+pub fn combinations(bits: &[u8]) -> Vec<u8> {
+    (0..1 << bits.len())
+        .map(|chosen: usize| {
+            let turned = bits.iter().enumerate().filter(|(i, _)| chosen >> i & 1 == 1);
+            turned.fold(DEFAULT, |settings, (_, bit)| settings ^ bit)
+        })
+        .collect()
+}
+
+/// All 256 settings.
+pub fn every() -> Vec<u8> {
+    (0..=u8::MAX).collect()
+}
+
+/// The default, each flag turned over alone, all off, all on, and some that act together.
+pub fn several() -> Vec<u8> {
+    let mut settings = vec![DEFAULT, 0, u8::MAX];
+    settings.extend((0..8).map(|bit| DEFAULT ^ 1 << bit));
+    settings.push(DEFAULT | TRIM_START | TRIM_END | DANGLING);
+    settings.push(DEFAULT | EXPAND | UNMATCHED | COMMENTS);
+    settings.push(TRIM_START | TRIM_END | EXPAND | UNMATCHED);
+    settings
+}

@@ -1,0 +1,76 @@
+//! Byte sequences around the borders of UTF-8, in every kind of piece.
+
+use super::*;
+
+/// Bytes at which a row of the table of well-formed sequences begins or ends.
+const BORDERS: &[u8] = &[
+    0x00, 0x7F, 0x80, 0x8F, 0x90, 0x9F, 0xA0, 0xBE, 0xBF, 0xC0, 0xC1, 0xC2, 0xDF, 0xE0, 0xE1, 0xEC, 0xED, 0xEE, 0xEF, 0xF0, 0xF1, 0xF3,
+    0xF4, 0xF5, 0xF7, 0xF8, 0xFF, b'a',
+];
+
+/// What stands before and behind the bytes.
+const AROUND: &[(&[u8], &[u8])] = &[
+    (b"", b""),
+    (b"a", b"<b>"),
+    (b"<a ", b">t"),
+    (b"&", b";"),
+    (b"<!--", b"-->"),
+    (b"<![CDATA[", b"]]>"),
+    (b"<?", b"?>"),
+    (b"<a></", b">"),
+    (b"<a b='", b"'/>"),
+    (b"&", b"&t"),
+    (b"<a>", b"</a>"),
+];
+
+fn put(around: usize, middle: &[u8], settings: &[u8], sink: &mut dyn Sink) -> Flow {
+    let (before, behind) = AROUND[around];
+    let mut room = [0; 32];
+    let ends = [before.len(), before.len() + middle.len(), before.len() + middle.len() + behind.len()];
+    room[..ends[0]].copy_from_slice(before);
+    room[ends[0]..ends[1]].copy_from_slice(middle);
+    room[ends[1]..ends[2]].copy_from_slice(behind);
+    sink.each(&room[..ends[2]], settings, 6)
+}
+
+pub fn families(amount: Amount) -> Vec<Family> {
+    let settings = [DEFAULT, !DEFAULT];
+    let two = Family::new("all sequences of two bytes", AROUND.len() * 256, move |job, sink| {
+        (0..=u8::MAX).try_for_each(|second| put(job / 256, &[(job % 256) as u8, second], &settings, sink))
+    });
+    let pieces = amount.of(1, 4);
+    let three = Family::new("all sequences of three bytes", pieces * 256, move |job, sink| {
+        let first = (job % 256) as u8;
+        let step = amount.of(if first < 0xC0 { 61 } else { 5 }, 1);
+        for second in (0..=u8::MAX).step_by(step) {
+            for third in (0..=u8::MAX).step_by(step) {
+                put(job / 256, &[first, second, third], &[DEFAULT], sink)?;
+            }
+        }
+        ON
+    });
+    let around = amount.of(1, AROUND.len());
+    let four = Family::new("border sequences of four bytes", around * BORDERS.len(), move |job, sink| {
+        let first = BORDERS[job % BORDERS.len()];
+        for &second in BORDERS {
+            for &third in BORDERS {
+                for &fourth in BORDERS {
+                    put(job / BORDERS.len(), &[first, second, third, fourth], &[DEFAULT], sink)?;
+                }
+            }
+        }
+        ON
+    });
+    let leads = Family::new("all sequences of a four byte lead", 16, move |job, sink| {
+        let first = 0xF0 + job as u8;
+        for second in (0..=u8::MAX).step_by(amount.of(3, 1)) {
+            for &third in BORDERS {
+                for fourth in (0..=u8::MAX).step_by(amount.of(31, 1)) {
+                    put(1, &[first, second, third, fourth], &[DEFAULT], sink)?;
+                }
+            }
+        }
+        ON
+    });
+    vec![two, three, four, leads]
+}

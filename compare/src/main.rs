@@ -1,0 +1,105 @@
+//! Compares Sporebasket with quick-xml 0.42.0, call by call. See `tools/compare` and `tools/record`.
+
+mod check;
+mod faults;
+mod inputs;
+mod listed;
+mod ours;
+mod record;
+mod run;
+mod scanners;
+mod shrink;
+mod summary;
+mod theirs;
+mod trace;
+
+use inputs::Amount;
+use std::path::PathBuf;
+use std::process::ExitCode;
+
+const USAGE: &str = "usage: compare [--quick | --faults | --record FOLDER] [--seed N] [FILE..]";
+
+struct Wish {
+    amount: Amount,
+    seed: u64,
+    files: Vec<PathBuf>,
+    tags: bool,
+    faults: bool,
+    record: Option<PathBuf>,
+}
+
+fn wish() -> Option<Wish> {
+    let mut wish = Wish { amount: Amount::Full, seed: 1, files: Vec::new(), tags: false, faults: false, record: None };
+    let mut arguments = std::env::args().skip(1);
+    while let Some(argument) = arguments.next() {
+        match argument.as_str() {
+            "--quick" => wish.amount = Amount::Quick,
+            "--seed" => wish.seed = arguments.next()?.parse().ok()?,
+            "--tags" => wish.tags = true,
+            "--faults" => wish.faults = true,
+            "--record" => wish.record = Some(arguments.next()?.into()),
+            flag if flag.starts_with("--") => return None,
+            file => wish.files.push(file.into()),
+        }
+    }
+    Some(wish)
+}
+
+fn main() -> ExitCode {
+    let Some(wish) = wish() else {
+        eprintln!("{USAGE}");
+        return ExitCode::from(2);
+    };
+    if wish.tags {
+        let scanners = scanners::ROWS.iter().map(|row| &row.tag);
+        listed::TAGS.iter().chain(scanners).for_each(|tag| println!("{tag}"));
+        return ExitCode::SUCCESS;
+    }
+    if wish.faults {
+        return ExitCode::from(!faults::run(wish.seed) as u8);
+    }
+    if let Some(folder) = wish.record {
+        return match record::record(&folder, wish.seed) {
+            Ok(covered) => ExitCode::from(!covered as u8),
+            Err(error) => {
+                eprintln!("record: {}: {error}", folder.display());
+                ExitCode::FAILURE
+            }
+        };
+    }
+    compare(wish)
+}
+
+fn compare(wish: Wish) -> ExitCode {
+    if let Some(file) = wish.files.iter().find(|file| std::fs::File::open(file).is_err()) {
+        eprintln!("compare: cannot read {}", file.display());
+        return ExitCode::from(2);
+    }
+    if ours::default_settings() != theirs::default_settings() {
+        println!("compare: the default settings differ");
+        return ExitCode::FAILURE;
+    }
+    let refuted = scanners::refuted();
+    if !refuted.is_empty() {
+        println!("compare: the crate's scanners do not do what is listed: {refuted:?}");
+        return ExitCode::FAILURE;
+    }
+    let of_files = !wish.files.is_empty();
+    let families = if of_files { inputs::of_files(wish.files) } else { inputs::all(wish.amount, wish.seed) };
+    let (tallies, found) = run::run(&families);
+    let named: Vec<_> = families.iter().map(|f| f.name).zip(tallies).collect();
+    let all = summary::print(&named);
+    for (kept, difference) in &found {
+        let mut bench = check::Bench::new(ours::Archive);
+        if *difference == check::PANIC {
+            println!("a side panicked: {}", trace::case_line(&kept.case()));
+            continue;
+        }
+        let (kept, difference) = shrink::shrink(&mut bench, kept, *difference);
+        shrink::show(&mut bench.engine, &kept, difference);
+    }
+    let missing = if of_files { Vec::new() } else { all.missing() };
+    missing.iter().for_each(|what| println!("never seen: {what}"));
+    println!("compare: {} inputs, {} calls, {} unlisted differences", all.inputs, all.calls, all.differences);
+    ExitCode::from((all.differences > 0 || all.inputs == 0 || !missing.is_empty()) as u8)
+}

@@ -1,0 +1,135 @@
+//! Our side: the functions of `include/sporebasket.h`, and the numbers that they write. The only unsafe code.
+
+extern "C" {
+    fn sporebasket_default_settings() -> usize;
+    fn sporebasket_new(document: *const u8, length: usize, settings: usize, state: *mut usize, state_slots: usize) -> usize;
+    fn sporebasket_read_event(
+        document: *const u8,
+        length: usize,
+        stack: *mut usize,
+        stack_slots: usize,
+        state: *mut usize,
+        state_slots: usize,
+        answer: *mut usize,
+        answer_slots: usize,
+    ) -> usize;
+    fn sporebasket_content(document: *const u8, length: usize, from: usize, to: usize, part: *mut usize, part_slots: usize) -> usize;
+}
+
+/// The settings, a bit each, and the letter of each in a recorded case.
+pub const DANGLING: u8 = 1;
+pub const UNMATCHED: u8 = 2;
+pub const COMMENTS: u8 = 4;
+pub const NAMES: u8 = 8;
+pub const EXPAND: u8 = 16;
+pub const TRIM_NAMES: u8 = 32;
+pub const TRIM_START: u8 = 64;
+pub const TRIM_END: u8 = 128;
+pub const DEFAULT: u8 = NAMES | TRIM_NAMES;
+pub const LETTERS: [char; 8] = ['a', 'u', 'c', 'n', 'x', 'm', 's', 'e'];
+
+/// The slots of a state.
+pub const PHASE: usize = 0;
+pub const POSITION: usize = 1;
+pub const DEPTH: usize = 2;
+pub const LENGTH: usize = 3;
+pub const SETTINGS: usize = 4;
+pub const STATE_SLOTS: usize = 5;
+
+/// The phases.
+pub const INIT: usize = 0;
+pub const TEXT_PHASE: usize = 1;
+pub const MARKUP_PHASE: usize = 2;
+pub const REF_PHASE: usize = 3;
+pub const DONE: usize = 5;
+pub const PHASES: [&str; 6] = ["init", "text", "markup", "ref", "empty", "done"];
+
+/// The slots of an answer.
+pub const KIND: usize = 0;
+pub const NUMBER: usize = 1;
+pub const PLACE: usize = 2;
+pub const PIECE_FROM: usize = 3;
+pub const PIECE_TO: usize = 4;
+pub const CONTENT_FROM: usize = 5;
+pub const CONTENT_TO: usize = 6;
+pub const NAME: usize = 7;
+pub const EXPECTED_FROM: usize = 8;
+pub const EXPECTED_TO: usize = 9;
+pub const FOUND_FROM: usize = 10;
+pub const FOUND_TO: usize = 11;
+pub const ANSWER_SLOTS: usize = 12;
+
+/// The kinds of an event.
+pub const START: usize = 1;
+pub const END: usize = 2;
+pub const EMPTY: usize = 3;
+pub const TEXT: usize = 4;
+pub const REF: usize = 5;
+pub const COMMENT: usize = 6;
+pub const CDATA: usize = 7;
+pub const DECL: usize = 8;
+pub const PI: usize = 9;
+pub const EOF: usize = 10;
+pub const KINDS: [&str; 11] = ["refused", "start", "end", "empty", "text", "ref", "comment", "cdata", "decl", "pi", "eof"];
+
+/// The refusals that the comparison has to do with by number.
+pub const DOUBLE_HYPHEN: usize = 9;
+pub const MISMATCHED: usize = 10;
+pub const UNMATCHED_END: usize = 11;
+pub const ENCODING: usize = 13;
+pub const DOCTYPE: usize = 14;
+pub const STACK_FULL: usize = 15;
+pub const TOO_LONG: usize = 16;
+
+pub const LONGEST: usize = 16_777_216;
+pub const MOST_NAMES: usize = 4096;
+
+/// How many names a stack holds.
+pub fn capacity(slots: usize) -> usize {
+    (slots / 2).min(MOST_NAMES)
+}
+
+/// What plays our side: the archive itself, or one with a fault put in.
+pub trait Engine {
+    fn make(&mut self, document: &[u8], settings: usize, state: &mut [usize]) -> usize;
+    fn read(&mut self, document: &[u8], stack: &mut [usize], state: &mut [usize], answer: &mut [usize]) -> usize;
+}
+
+pub struct Archive;
+
+impl Engine for Archive {
+    fn make(&mut self, document: &[u8], settings: usize, state: &mut [usize]) -> usize {
+        // SAFETY: each pointer is to as many bytes or slots as its count says, and none overlap.
+        unsafe { sporebasket_new(document.as_ptr(), document.len(), settings, state.as_mut_ptr(), state.len()) }
+    }
+
+    fn read(&mut self, document: &[u8], stack: &mut [usize], state: &mut [usize], answer: &mut [usize]) -> usize {
+        // SAFETY: as above.
+        unsafe {
+            sporebasket_read_event(
+                document.as_ptr(),
+                document.len(),
+                stack.as_mut_ptr(),
+                stack.len(),
+                state.as_mut_ptr(),
+                state.len(),
+                answer.as_mut_ptr(),
+                answer.len(),
+            )
+        }
+    }
+}
+
+/// The settings that the archive gives a reader by default.
+pub fn default_settings() -> usize {
+    // SAFETY: it takes nothing.
+    unsafe { sporebasket_default_settings() }
+}
+
+/// The part of the document that the archive hands out for a span: its number and the part's two ends.
+pub fn content(document: &[u8], from: usize, to: usize) -> (usize, [usize; 2]) {
+    let mut part = [usize::MAX; 2];
+    // SAFETY: as above.
+    let number = unsafe { sporebasket_content(document.as_ptr(), document.len(), from, to, part.as_mut_ptr(), part.len()) };
+    (number, part)
+}

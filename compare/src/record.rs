@@ -1,0 +1,298 @@
+//! Writes cases and what the crate answers to them, for a program that replays them. The cases are picked so that every kind, refusal and flag
+//! comes up in many ways, and filled up at random.
+
+use crate::check::{Bench, Case};
+use crate::inputs::{self, random, Amount, Flow, Sink, ON};
+use crate::listed;
+use crate::ours::*;
+use crate::shrink::Kept;
+use crate::summary::Tally;
+use crate::theirs::Theirs;
+use crate::trace;
+use std::collections::{BTreeMap, HashSet};
+use std::fmt::Write;
+use std::hash::{DefaultHasher, Hash, Hasher};
+use std::path::Path;
+
+const LONGEST_LINE: usize = 170;
+const LARGEST: usize = 250 << 10;
+const CASES: usize = 5_000;
+const OF_EACH_DIFFERENCE: usize = 150;
+/// One case in so many of those that are compared is looked at.
+const OF: usize = 6;
+
+const HEAD: &str = "\
+# Cases for `replay`, written by tools/record; what quick-xml 0.42.0 answers is in stdout.
+# A case is LETTERS SLOTS BYTES: the flags that are not as by default (a allow_dangling_amp, u allow_unmatched_ends, c check_comments,
+# n check_end_names, x expand_empty_elements, m trim_markup_names_in_closing_tags, s trim_text_start, e trim_text_end) or a hyphen,
+# the slots of the stack, and the document. A byte that is not printable ASCII, a backslash and a space at the end are written \\HH.
+";
+const DIFFERENCES: &str = "# differences\n";
+
+/// One call of the crate: its class (kind or refusal), and all that it said.
+#[derive(PartialEq, Eq)]
+struct Step {
+    class: usize,
+    phase: usize,
+    depth: usize,
+    name: usize,
+    length: usize,
+    said: (usize, usize, Option<(usize, usize)>),
+}
+
+fn steps(case: &Case) -> Vec<Step> {
+    let mut theirs = Theirs::new(case.document, case.settings);
+    let mut out: Vec<Step> = Vec::new();
+    while out.last().is_none_or(|step| step.class != EOF) {
+        let seen = theirs.read();
+        let class = if seen.number > 0 { 100 + seen.number } else { seen.kind };
+        let place = if seen.number > 0 { theirs.place() } else { 0 };
+        let length = seen.content.map_or(seen.made.len(), |(from, to)| to - from);
+        let said = (theirs.position(), place, seen.content);
+        out.push(Step { class, phase: theirs.phase(), depth: theirs.depth(), name: seen.name, length, said });
+    }
+    out
+}
+
+fn hashed(feature: impl Hash) -> u64 {
+    let mut hasher = DefaultHasher::new();
+    feature.hash(&mut hasher);
+    hasher.finish()
+}
+
+/// What a case shows: each answer behind the one before, how long names and contents are, a full stack, a byte order mark.
+fn features(case: &Case, steps: &[Step]) -> Vec<u64> {
+    let mut out = Vec::new();
+    let mark = case.document.starts_with(b"\xEF\xBB\xBF");
+    let (mut earlier, mut before) = (0, 0);
+    for step in steps {
+        out.push(hashed(("pair", before, step.class, step.phase)));
+        out.push(hashed(("triple", earlier, before, step.class)));
+        out.push(hashed(("size", step.class, step.name.min(3), step.length.min(4))));
+        out.push(hashed(("place", step.class, (step.said.0 - step.said.1).min(12))));
+        out.push(hashed(("depth", step.class, step.depth.min(6), mark)));
+        out.push(hashed(("settings", step.class, before, (case.settings ^ DEFAULT).trailing_zeros())));
+        (earlier, before) = (before, step.class);
+    }
+    let most = steps.iter().map(|step| step.depth).max();
+    if most == Some(capacity(case.slots)) {
+        out.push(hashed(("full", case.slots.min(12))));
+    }
+    out.push(hashed(("bytes", case.document.len())));
+    out.extend(sequence(case.document, steps));
+    out
+}
+
+/// What the first bytes show that are not ASCII: the lead, the row of the byte behind it, how many bytes could go on its character, and
+/// whether a piece is refused for it.
+fn sequence(document: &[u8], steps: &[Step]) -> Option<u64> {
+    let at = document.iter().position(|b| !b.is_ascii())?;
+    let row = |b: Option<&u8>| match b {
+        None | Some(..0x80) => 0,
+        Some(0x80..0x90) => 1,
+        Some(0x90..0xA0) => 2,
+        Some(0xA0..0xC0) => 3,
+        Some(_) => 4,
+    };
+    let tail = document[at + 1..].iter().take_while(|&&b| matches!(b, 0x80..0xC0)).count();
+    let ill = steps.iter().any(|step| step.class == 100 + ENCODING);
+    Some(hashed(("lead", document[at].max(0xBF), row(document.get(at + 1)), tail.min(4), ill)))
+}
+
+/// How each flag acts: the first answer in which turning it over shows.
+fn effects(case: &Case, with: &[Step]) -> Vec<(usize, u64)> {
+    let mut out = Vec::new();
+    for flag in 0..8 {
+        let other = Case { settings: case.settings ^ 1 << flag, ..*case };
+        let without = steps(&other);
+        if let Some((a, b)) = with.iter().zip(&without).find(|(a, b)| a != b) {
+            out.push((flag, hashed(("flag", flag, a.class, b.class, a.phase, b.phase))));
+        }
+    }
+    out
+}
+
+struct Recorder {
+    bench: Bench<Archive>,
+    dice: random::Dice,
+    seen: HashSet<u64>,
+    lines: HashSet<String>,
+    cases: Vec<Kept>,
+    differences: [Vec<Kept>; listed::COUNT],
+    tally: Tally,
+    flags: [usize; 8],
+    full: usize,
+    failed: bool,
+    /// Take a case that shows nothing new, too.
+    any: bool,
+    /// How many cases show something that none before them did.
+    picked: usize,
+}
+
+impl Recorder {
+    /// Looks at a case, and takes it if it shows something that none so far does.
+    fn look(&mut self, case: &Case) {
+        let mut tally = Tally::default();
+        if self.bench.run(case, &mut tally).is_err() {
+            self.failed = true;
+            return;
+        }
+        let tags: Vec<usize> = (0..listed::COUNT).filter(|&row| tally.listed[row] > 0).collect();
+        if tally.left != [0; 3] || tags.len() > 1 {
+            return;
+        }
+        let steps = steps(case);
+        let mut shown = features(case, &steps);
+        shown.extend(tags.iter().map(|tag| hashed(("tag", tag, steps.len(), case.document.len()))));
+        let effects = effects(case, &steps);
+        shown.extend(effects.iter().map(|effect| effect.1));
+        let fresh = shown.iter().filter(|feature| !self.seen.contains(feature)).count();
+        if fresh == 0 && !self.any || !self.lines.insert(trace::case_line(case)) {
+            return;
+        }
+        let into = match tags.first() {
+            Some(&tag) if self.differences[tag].len() == OF_EACH_DIFFERENCE || unplaced(case, tag, &steps) => return,
+            Some(&tag) => &mut self.differences[tag],
+            None => &mut self.cases,
+        };
+        into.push(Kept::of(case));
+        self.seen.extend(shown);
+        self.tally.add(&tally);
+        let turned = effects.iter().filter(|(flag, _)| (case.settings ^ DEFAULT) >> flag & 1 == 1);
+        turned.for_each(|&(flag, _)| self.flags[flag] += 1);
+        self.full += (steps.iter().any(|step| step.depth > 0 && step.depth == capacity(case.slots))) as usize;
+    }
+}
+
+/// Behind a byte order mark, with no refusal before, the place that the crate gives is no position: such a case is not recorded.
+fn unplaced(case: &Case, tag: usize, steps: &[Step]) -> bool {
+    let refusals = steps.iter().filter(|step| step.class > 100).count();
+    listed::TAGS[tag] == "encoding-place" && case.document.starts_with(b"\xEF\xBB\xBF") && refusals < 2
+}
+
+impl Sink for Recorder {
+    fn case(&mut self, document: &[u8], settings: u8, slots: usize) -> Flow {
+        if document.len() > LONGEST_LINE || self.dice.below(OF) > 0 {
+            return ON;
+        }
+        let case = Case { document, settings, slots };
+        if trace::case_line(&case).len() <= LONGEST_LINE {
+            self.look(&case);
+        }
+        ON
+    }
+}
+
+/// The lines of a case: itself, and each call's; where ours differs by a listed difference, the crate's line stands above ours.
+fn lines_of(case: &Case, out: &mut String) {
+    let theirs = trace::their_lines(case, usize::MAX);
+    let ours = trace::our_lines(&mut Archive, case, usize::MAX);
+    for (their, our) in theirs.iter().zip(&ours) {
+        if their != our {
+            let _ = writeln!(out, "  crate {their}");
+        }
+        let _ = writeln!(out, "  {our}");
+    }
+}
+
+/// Picks the cases: those that show something new out of all families, then random ones up to the number wanted.
+fn pick(seed: u64) -> Recorder {
+    let mut recorder = Recorder {
+        bench: Bench::new(Archive),
+        dice: random::Dice::new(seed),
+        seen: HashSet::new(),
+        lines: HashSet::new(),
+        cases: Vec::new(),
+        differences: Default::default(),
+        tally: Tally::default(),
+        flags: [0; 8],
+        full: 0,
+        failed: false,
+        any: false,
+        picked: 0,
+    };
+    for family in inputs::all(Amount::Quick, seed) {
+        if family.name != "documents of the greatest length" && !family.name.starts_with("files") {
+            (0..family.jobs).for_each(|job| _ = (family.run)(job, &mut recorder));
+        }
+    }
+    recorder.any = true;
+    recorder.picked = recorder.cases.len();
+    let mut dice = random::Dice::new(seed + 1);
+    let mut document = Vec::new();
+    while recorder.cases.len() < CASES && !recorder.failed {
+        match dice.below(12) {
+            0 => random::comment(&mut dice, &mut document),
+            1..4 => random::timetable(&mut dice, &mut document),
+            _ => random::soup(&mut dice, &mut document),
+        }
+        document.truncate(150);
+        if document.len() > 5 {
+            let settings = dice.next() as u8;
+            let _ = recorder.case(&document, settings, dice.below(24));
+        }
+    }
+    recorder
+}
+
+/// Prints what the cases cover: what they lack.
+fn covered(recorder: &Recorder, size: usize) -> Vec<String> {
+    let tally = &recorder.tally;
+    println!("record: {} cases, {} of them picked, {size} bytes", recorder.cases.len(), recorder.picked);
+    for (tag, cases) in listed::TAGS.iter().zip(&recorder.differences) {
+        println!("record: {} cases of {tag}", cases.len());
+    }
+    let counts =
+        |words: &mut dyn Iterator<Item = (String, u64)>| -> String { words.map(|(word, count)| format!(" {word} {count}")).collect() };
+    let kinds = &mut KINDS.iter().zip(tally.kinds).skip(1).map(|(word, n)| (word.to_string(), n));
+    println!("record: calls by kind:{}", counts(kinds));
+    println!("record: by refusal:{}", counts(&mut (1..=13).map(|n| (n.to_string(), tally.numbers[n]))));
+    let flags = &mut LETTERS.iter().zip(recorder.flags).map(|(letter, n)| (letter.to_string(), n as u64));
+    println!("record: cases in which a flag is turned over and matters:{}", counts(flags));
+    println!("record: cases with a full stack: {}", recorder.full);
+    let mut lacking = tally.missing();
+    lacking.extend((0..8).filter(|&flag| recorder.flags[flag] == 0).map(|flag| format!("flag {}", LETTERS[flag])));
+    if recorder.full == 0 {
+        lacking.push("a full stack".into());
+    }
+    if recorder.failed {
+        lacking.push("equality: an unlisted difference, see tools/compare".into());
+    }
+    if size > LARGEST {
+        lacking.push("room: the cases are too large".into());
+    }
+    lacking
+}
+
+/// Writes `stdin` and `stdout` into the folder: false if something is not covered.
+pub fn record(folder: &Path, seed: u64) -> std::io::Result<bool> {
+    let recorder = pick(seed);
+    let mut cases: BTreeMap<(usize, String), &Kept> = BTreeMap::new();
+    for kept in &recorder.cases {
+        cases.insert((kept.document.len(), trace::case_line(&kept.case())), kept);
+    }
+    let (mut stdin, mut stdout) = (String::from(HEAD), String::new());
+    let mut put = |line: &str, case: &Case| {
+        let _ = writeln!(stdin, "{line}");
+        let _ = writeln!(stdout, "{line}");
+        lines_of(case, &mut stdout);
+    };
+    cases.iter().for_each(|((_, line), kept)| put(line, &kept.case()));
+    let mut below = String::new();
+    for (tag, kept) in listed::TAGS.iter().zip(&recorder.differences) {
+        for kept in kept {
+            let line = format!("difference {tag} {}", trace::case_line(&kept.case()));
+            let _ = writeln!(below, "{line}");
+            let _ = writeln!(stdout, "{line}");
+            lines_of(&kept.case(), &mut stdout);
+        }
+    }
+    stdin.push_str(DIFFERENCES);
+    stdin.push_str(&below);
+    std::fs::create_dir_all(folder)?;
+    std::fs::write(folder.join("stdin"), &stdin)?;
+    std::fs::write(folder.join("stdout"), &stdout)?;
+    let lacking = covered(&recorder, stdin.len());
+    lacking.iter().for_each(|what| println!("record: lacking {what}"));
+    Ok(lacking.is_empty())
+}

@@ -1,0 +1,82 @@
+//! Makes an input that shows a difference smaller, and prints it with what both sides say.
+
+use crate::check::{Bench, Case, Difference, FIELDS};
+use crate::ours::*;
+use crate::summary::Tally;
+use crate::trace;
+
+/// An input of its own.
+#[derive(Clone)]
+pub struct Kept {
+    pub document: Vec<u8>,
+    pub settings: u8,
+    pub slots: usize,
+}
+
+impl Kept {
+    pub fn of(case: &Case) -> Self {
+        Self { document: case.document.to_vec(), settings: case.settings, slots: case.slots }
+    }
+
+    pub fn case(&self) -> Case<'_> {
+        Case { document: &self.document, settings: self.settings, slots: self.slots }
+    }
+}
+
+/// Smaller inputs, the much smaller ones first, each made when it is asked for.
+fn smaller(kept: &Kept) -> impl Iterator<Item = Kept> + '_ {
+    let length = kept.document.len();
+    let sizes = std::iter::successors(Some(length), |size| Some(size / 2)).take_while(|&size| size > 0);
+    let cuts = sizes.flat_map(move |size| (0..length).step_by(size).take(200).map(move |from| (from, size)));
+    let cut = cuts.map(move |(from, size)| {
+        let document = [&kept.document[..from], &kept.document[(from + size).min(length)..]].concat();
+        Kept { document, ..*kept }
+    });
+    let bits = (0..8).filter(|bit| (kept.settings ^ DEFAULT) >> bit & 1 == 1);
+    let plain = bits.map(|bit| Kept { settings: kept.settings ^ 1 << bit, ..kept.clone() });
+    let fewer = (kept.slots > 0).then(|| Kept { slots: kept.slots - 1, ..kept.clone() });
+    let places = (0..length.min(200)).filter(|&at| !b"a<>".contains(&kept.document[at]));
+    let same = places.map(|at| {
+        let mut next = kept.clone();
+        next.document[at] = b'a';
+        next
+    });
+    cut.chain(plain).chain(fewer).chain(same)
+}
+
+/// The smallest input found on which the two sides still differ in one of these fields.
+pub fn shrink<E: Engine>(bench: &mut Bench<E>, kept: &Kept, difference: Difference) -> (Kept, Difference) {
+    let mut tally = Tally::default();
+    let mut best = (kept.clone(), difference);
+    let mut tries = 3_000;
+    loop {
+        let mut again = |next: Kept| {
+            tries -= 1;
+            let found = bench.run(&next.case(), &mut tally).err()?;
+            (found.fields & difference.fields != 0).then_some((next, found))
+        };
+        let next = smaller(&best.0).take(1_000).find_map(&mut again);
+        match next {
+            Some(next) if tries > 0 => best = next,
+            _ => return best,
+        }
+    }
+}
+
+/// Prints an input, what differs in which call, and all answers up to that call.
+pub fn show<E: Engine>(engine: &mut E, kept: &Kept, difference: Difference) {
+    let case = kept.case();
+    let fields: Vec<&str> = (0..FIELDS.len()).filter(|i| difference.fields >> i & 1 == 1).map(|i| FIELDS[i]).collect();
+    println!("difference in call {}: {}", difference.call, fields.join(", "));
+    if kept.document.len() > 4_000 {
+        println!("  {} {} and {} bytes", trace::letters(case.settings), case.slots, kept.document.len());
+        return;
+    }
+    println!("  {}", trace::case_line(&case));
+    for line in trace::our_lines(engine, &case, difference.call + 1) {
+        println!("    ours       {line}");
+    }
+    for line in trace::their_lines(&case, difference.call + 1) {
+        println!("    the crate  {line}");
+    }
+}

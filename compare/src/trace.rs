@@ -1,0 +1,114 @@
+//! Lines that show a document, settings and answers, in the form that the recorded cases have.
+
+use crate::check::{Case, CANARY};
+use crate::ours::*;
+use crate::theirs::{Seen, Theirs};
+
+/// Printable ASCII as it stands, every other byte and the backslash as two digits behind one.
+pub fn escaped(bytes: &[u8]) -> String {
+    let mut out = String::new();
+    for &b in bytes {
+        match b {
+            b'\\' => out.push_str("\\5C"),
+            0x20..=0x7E => out.push(b as char),
+            _ => out.push_str(&format!("\\{b:02X}")),
+        }
+    }
+    out
+}
+
+/// The letters of the flags that are not as by default, or a hyphen.
+pub fn letters(settings: u8) -> String {
+    let turned: String = (0..8).filter(|i| (settings ^ DEFAULT) >> i & 1 == 1).map(|i| LETTERS[i]).collect();
+    if turned.is_empty() {
+        return "-".into();
+    }
+    turned
+}
+
+/// A case on a line, which ends in no space.
+pub fn case_line(case: &Case) -> String {
+    let mut line = format!("{} {}", letters(case.settings), case.slots);
+    if !case.document.is_empty() {
+        line.push(' ');
+        line.push_str(&escaped(case.document));
+    }
+    if line.ends_with(' ') {
+        line.truncate(line.len() - 1);
+        line.push_str("\\20");
+    }
+    line
+}
+
+/// One answer on a line; `bytes` are the content, or the names that a refusal has.
+fn line(kind: usize, number: usize, place: usize, state: [usize; 3], name: usize, bytes: &[&[u8]]) -> String {
+    let [phase, position, depth] = state;
+    let phase = PHASES.get(phase).unwrap_or(&"?");
+    let bars: String = bytes.iter().map(|b| format!(" |{}|", escaped(b))).collect();
+    match number {
+        0 => format!("{} {phase} {position} {depth} {name}{bars}", KINDS.get(kind).unwrap_or(&"?")),
+        _ => format!("refused {number} {place} {phase} {position} {depth}{bars}"),
+    }
+}
+
+/// What the crate answered, with the place of its error.
+pub fn their_line(theirs: &Theirs, seen: &Seen, document: &[u8]) -> String {
+    let state = [theirs.phase(), theirs.position() + theirs.mark, theirs.depth()];
+    let content = match seen.content {
+        Some((from, to)) => document.get(from..to).unwrap_or(b"?"),
+        None => seen.made.as_bytes(),
+    };
+    let names = [seen.made.as_bytes(), seen.found.as_bytes()];
+    let bytes: &[&[u8]] = match seen.number {
+        0 => &[content],
+        MISMATCHED => &names,
+        UNMATCHED_END => &names[1..],
+        _ => &[],
+    };
+    line(seen.kind, seen.number, theirs.place() + theirs.mark, state, seen.name, bytes)
+}
+
+/// What ours answered.
+pub fn our_line(state: &[usize], answer: &[usize], document: &[u8]) -> String {
+    let part = |slot: usize| document.get(answer[slot]..answer[slot + 1]).unwrap_or(b"?");
+    let names = [part(EXPECTED_FROM), part(FOUND_FROM)];
+    let content = [part(CONTENT_FROM)];
+    let bytes: &[&[u8]] = match answer[NUMBER] {
+        0 => &content,
+        MISMATCHED => &names,
+        UNMATCHED_END => &names[1..],
+        _ => &[],
+    };
+    let state = [state[PHASE], state[POSITION], state[DEPTH]];
+    line(answer[KIND], answer[NUMBER], answer[PLACE], state, answer[NAME], bytes)
+}
+
+/// The lines of our side, up to Eof or so many.
+pub fn our_lines<E: Engine>(engine: &mut E, case: &Case, most: usize) -> Vec<String> {
+    let mut state = [0; STATE_SLOTS];
+    let mut answer = [0; ANSWER_SLOTS];
+    let mut stack = vec![CANARY; case.slots];
+    let made = engine.make(case.document, case.settings.into(), &mut state);
+    if made != 0 {
+        return vec![format!("refused {made}, no reader")];
+    }
+    let mut lines = Vec::new();
+    while lines.len() < most && answer[KIND] != EOF {
+        engine.read(case.document, &mut stack, &mut state, &mut answer);
+        lines.push(our_line(&state, &answer, case.document));
+    }
+    lines
+}
+
+/// The lines of the crate, up to Eof or so many.
+pub fn their_lines(case: &Case, most: usize) -> Vec<String> {
+    let mut theirs = Theirs::new(case.document, case.settings);
+    let mut lines = Vec::new();
+    let mut kind = 0;
+    while lines.len() < most && kind != EOF {
+        let seen = theirs.read();
+        kind = seen.kind;
+        lines.push(their_line(&theirs, &seen, case.document));
+    }
+    lines
+}

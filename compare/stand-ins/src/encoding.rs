@@ -1,0 +1,24 @@
+//! What the given files ask of `encoding` in a build without that feature. Ours.
+
+use std::fmt;
+use std::str::Utf8Error;
+
+pub(crate) const UTF8_BOM: &[u8] = b"\xEF\xBB\xBF";
+
+#[derive(Clone, Copy, Debug)]
+pub struct Decoder;
+
+#[derive(Clone, Debug, PartialEq, Eq)]
+pub enum EncodingError {
+    Utf8(Utf8Error),
+}
+
+impl fmt::Display for EncodingError {
+    fn fmt(&self, f: &mut fmt::Formatter) -> fmt::Result {
+        match self {
+            Self::Utf8(e) => e.fmt(f),
+        }
+    }
+}
+
+impl std::error::Error for EncodingError {}

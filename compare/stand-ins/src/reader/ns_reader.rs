@@ -1,0 +1,3 @@
+//! The reader of namespaces is not compared; its name is exported. Ours.
+
+pub struct NsReader;
