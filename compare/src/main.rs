@@ -1,5 +1,7 @@
 //! Compares Sporebasket with quick-xml 0.42.0, call by call. See `tools/compare` and `tools/record`.
 
+#![forbid(unsafe_code)]
+
 mod check;
 mod faults;
 mod inputs;

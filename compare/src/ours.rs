@@ -1,20 +1,6 @@
-//! Our side: the functions of `include/sporebasket.h`, and the numbers that they write. The only unsafe code.
+//! Our side: the functions of the Rust package over slices, and the numbers that they write.
 
-extern "C" {
-    fn sporebasket_default_settings() -> usize;
-    fn sporebasket_new(document: *const u8, length: usize, settings: usize, state: *mut usize, state_slots: usize) -> usize;
-    fn sporebasket_read_event(
-        document: *const u8,
-        length: usize,
-        stack: *mut usize,
-        stack_slots: usize,
-        state: *mut usize,
-        state_slots: usize,
-        answer: *mut usize,
-        answer_slots: usize,
-    ) -> usize;
-    fn sporebasket_content(document: *const u8, length: usize, from: usize, to: usize, part: *mut usize, part_slots: usize) -> usize;
-}
+use sporebasket::lent;
 
 /// The settings, a bit each, and the letter of each in a recorded case.
 pub const DANGLING: u8 = 1;
@@ -34,7 +20,7 @@ pub const POSITION: usize = 1;
 pub const DEPTH: usize = 2;
 pub const LENGTH: usize = 3;
 pub const SETTINGS: usize = 4;
-pub const STATE_SLOTS: usize = 5;
+pub const STATE_SLOTS: usize = lent::STATE_SLOTS;
 
 /// The phases.
 pub const INIT: usize = 0;
@@ -57,7 +43,7 @@ pub const EXPECTED_FROM: usize = 8;
 pub const EXPECTED_TO: usize = 9;
 pub const FOUND_FROM: usize = 10;
 pub const FOUND_TO: usize = 11;
-pub const ANSWER_SLOTS: usize = 12;
+pub const ANSWER_SLOTS: usize = lent::ANSWER_SLOTS;
 
 /// The kinds of an event.
 pub const START: usize = 1;
@@ -81,6 +67,7 @@ pub const DOCTYPE: usize = 14;
 pub const STACK_FULL: usize = 15;
 pub const TOO_LONG: usize = 16;
 
+/// The limits, as document 01 has them.
 pub const LONGEST: usize = 16_777_216;
 pub const MOST_NAMES: usize = 4096;
 
@@ -99,37 +86,21 @@ pub struct Archive;
 
 impl Engine for Archive {
     fn make(&mut self, document: &[u8], settings: usize, state: &mut [usize]) -> usize {
-        // SAFETY: each pointer is to as many bytes or slots as its count says, and none overlap.
-        unsafe { sporebasket_new(document.as_ptr(), document.len(), settings, state.as_mut_ptr(), state.len()) }
+        lent::new(document, settings, state)
     }
 
     fn read(&mut self, document: &[u8], stack: &mut [usize], state: &mut [usize], answer: &mut [usize]) -> usize {
-        // SAFETY: as above.
-        unsafe {
-            sporebasket_read_event(
-                document.as_ptr(),
-                document.len(),
-                stack.as_mut_ptr(),
-                stack.len(),
-                state.as_mut_ptr(),
-                state.len(),
-                answer.as_mut_ptr(),
-                answer.len(),
-            )
-        }
+        lent::read_event(document, stack, state, answer)
     }
 }
 
 /// The settings that the archive gives a reader by default.
 pub fn default_settings() -> usize {
-    // SAFETY: it takes nothing.
-    unsafe { sporebasket_default_settings() }
+    lent::default_settings()
 }
 
 /// The part of the document that the archive hands out for a span: its number and the part's two ends.
-pub fn content(document: &[u8], from: usize, to: usize) -> (usize, [usize; 2]) {
-    let mut part = [usize::MAX; 2];
-    // SAFETY: as above.
-    let number = unsafe { sporebasket_content(document.as_ptr(), document.len(), from, to, part.as_mut_ptr(), part.len()) };
-    (number, part)
+pub fn content(document: &[u8], from: usize, to: usize) -> (usize, [usize; lent::PART_SLOTS]) {
+    let mut part = [usize::MAX; lent::PART_SLOTS];
+    (lent::content(document, from, to, &mut part), part)
 }

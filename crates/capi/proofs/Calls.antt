@@ -4,8 +4,6 @@ use mathlib.Core.Path.{_≡_, refl, sym, ap, _∙_}
 use mathlib.Core.List.{List}
 use lib.ListN.{length}
 use borrow.Author.Needs.{needs}
-use borrow.Author.Tests.{le-ltb, lt-ltb}
-use Rattle.ground.specs.Choose.{pick}
 use Rattle.ground.proofs.Choices.{pick-lt, pick-nlt}
 use Rattle.state.specs.declared.config.Config.{Config}
 use Rattle.state.specs.declared.place.Span.{Span}

@@ -1,15 +1,13 @@
 -- Numbers written into lent slots one after the other. Assumes nothing.
-use Prim.Native.Nat.{ℕ, zero, suc, _+_, _≤_, _<_}
+use Prim.Native.Nat.{ℕ, _+_, _≤_, _<_}
 use native.Mathlib.Omega.{arith}
 use native.Mathlib.Nat.{zero-add}
 use native.Mathlib.Numerals.{add-one}
-use mathlib.Core.Path.{_≡_, refl, sym, ap, _∙_}
-use mathlib.Core.List.{List, [], _∷_, _++_}
+use mathlib.Core.Path.{_≡_, sym, ap, _∙_}
+use mathlib.Core.List.{List, _++_}
 use lib.ListN.{length, getD, take, drop, set}
 use lib.Seq.{paste, paste-zero, paste-suc, take-length}
-use lib.Dec.{ltb}
 use borrow.Author.Needs.{needs}
-use Rattle.ground.specs.Choose.{pick}
 use Rattle.ground.proofs.Choices.{pick-lt, pick-nlt}
 use Rattle.capi.specs.Slots.{put}
 

@@ -5,7 +5,7 @@ use mathlib.Core.Path.{_≡_, refl, sym, ap, _∙_}
 use mathlib.Core.Bool.{Bool, true, false}
 use mathlib.Core.List.{List, []}
 use lib.ListN.{length}
-use lib.Dec.{eqb, ltb}
+use lib.Dec.{ltb}
 use borrow.Author.Tests.{eq-eqb, ltb-true, ltb-false}
 use Rattle.ground.specs.Choose.{pick}
 use Rattle.ground.specs.Part.{part}
@@ -13,7 +13,6 @@ use Rattle.ground.proofs.Choices.{pick-cases, pick-nlt}
 use Rattle.ground.proofs.Lists.{part-in, part-crossed, part-past, at-end}
 use Rattle.state.specs.declared.config.Config.{Config}
 use Rattle.state.specs.declared.place.Span.{Span}
-use Rattle.state.specs.declared.answer.Answer.{Answer}
 use Rattle.state.specs.declared.run.Reader.{Reader}
 use Rattle.state.specs.declared.run.Made.{Made}
 use Rattle.state.specs.Limits.{longest}
@@ -22,11 +21,11 @@ use Rattle.state.specs.Values.{valuesOf}
 use Rattle.reader.specs.Step.{step}
 use Rattle.demands.specs.Answers.{isBadState}
 use Rattle.demands.specs.Run.{World, said, call, run}
-use Rattle.demands.proofs.Demand1.{a-reader-made-is-a-run's, bad-state-exactly-when-unsound, unsound-changes-nothing}
+use Rattle.demands.proofs.Demand1.{bad-state-exactly-when-unsound, unsound-changes-nothing}
 use Rattle.capi.specs.declared.slots.Held.{Held}
 use Rattle.capi.specs.Numbers.{configOf, stateNumbers, stateSlots, valuesNumbers, answerSlots, heldOf}
 use Rattle.capi.specs.Slots.{put, placed}
-use Rattle.capi.specs.Calls.{bad, badNumber, madeNumber, madeState, Opened, lentTo, answerTo, Called}
+use Rattle.capi.specs.Calls.{bad, badNumber, madeNumber, madeState, Opened, lentTo, Called}
 use Rattle.capi.proofs.Rounds.{holds, what-is-stored-is-held, what-is-held-is-stored}
 
 -- what a host holds: the slots of its state hold this reader
