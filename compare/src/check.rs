@@ -32,7 +32,7 @@ pub struct Difference {
 pub const PANIC: Difference = Difference { call: 0, fields: 0 };
 
 /// Names of what can differ: the slots of an answer, then those of a state, then the rest.
-pub const FIELDS: [&str; 26] = [
+pub const FIELDS: [&str; 27] = [
     "kind",
     "number",
     "place",
@@ -59,6 +59,7 @@ pub const FIELDS: [&str; 26] = [
     "leaving the domain",
     "making a reader",
     "part handed back",
+    "alike, where a difference is listed",
 ];
 const STATE_BITS: usize = ANSWER_SLOTS;
 const RETURNED: u32 = 1 << 17;
@@ -70,6 +71,7 @@ const LATE: u32 = 1 << 22;
 const LEAVING: u32 = 1 << 23;
 const MAKING: u32 = 1 << 24;
 const PART: u32 = 1 << 25;
+const LISTED: u32 = 1 << 26;
 
 /// What the crate's side was before a call.
 pub struct Before {
@@ -147,11 +149,9 @@ impl<E: Engine> Bench<E> {
             if fields & STACK == 0 && !self.names_hold(case, &theirs, call) {
                 fields |= OPEN;
             }
-            if fields != 0 {
-                let told = listed::Told { case, answer: &self.answer, before: &before, theirs: &theirs, seen: &seen };
-                let row = listed::which(fields, &told).ok_or(Difference { call, fields })?;
-                tally.listed[row] += 1;
-            }
+            let told = listed::Told { case, answer: &self.answer, before: &before, theirs: &theirs, seen: &seen };
+            let row = listed::which(fields, &told).map_err(|()| Difference { call, fields: if fields == 0 { LISTED } else { fields } })?;
+            row.into_iter().for_each(|row| tally.listed[row] += 1);
             tally.calls += 1;
             tally.kinds[seen.kind] += 1;
             tally.numbers[seen.number] += 1;
@@ -198,6 +198,13 @@ impl<E: Engine> Bench<E> {
             self.stack.resize(slots + MARGIN, CANARY);
             self.shadow.resize(slots + MARGIN, CANARY);
         }
+    }
+
+    /// As new, after a case that did not come back.
+    pub fn reset(&mut self) {
+        self.stack.fill(CANARY);
+        self.shadow.fill(CANARY);
+        self.most = 0;
     }
 
     /// Puts the canaries back.

@@ -14,41 +14,61 @@ pub struct Told<'a> {
     pub seen: &'a Seen,
 }
 
-/// A row: its tag in docs/DIFFERENCES.md, the only fields that differ, and when.
+/// A row: its tag in docs/DIFFERENCES.md, the only fields that differ, when they do, and what both sides then say.
 struct Row {
     tag: &'static str,
     fields: u32,
+    due: fn(&Told) -> bool,
     holds: fn(&Told) -> bool,
 }
 
 const ROWS: [Row; 2] = [
-    Row { tag: "dangling-trim", fields: 1 << CONTENT_TO, holds: dangling_trim },
-    Row { tag: "encoding-place", fields: 1 << PLACE, holds: encoding_place },
+    Row { tag: "dangling-trim", fields: 1 << CONTENT_TO, due: is_dangling, holds: dangling_trim },
+    Row { tag: "encoding-place", fields: 1 << PLACE, due: is_ill_formed, holds: encoding_place },
 ];
 
 pub const COUNT: usize = ROWS.len();
 pub const TAGS: [&str; COUNT] = [ROWS[0].tag, ROWS[1].tag];
 
-/// The row that a difference is of, if it is of one.
-pub fn which(fields: u32, told: &Told) -> Option<usize> {
-    ROWS.iter().position(|row| row.fields == fields && (row.holds)(told))
+/// The row of a call in which the sides differ in these fields, none where they are alike and have to be; an error if they should not differ so.
+pub fn which(fields: u32, told: &Told) -> Result<Option<usize>, ()> {
+    match ROWS.iter().position(|row| (row.due)(told)) {
+        Some(row) if ROWS[row].fields == fields && (ROWS[row].holds)(told) => Ok(Some(row)),
+        None if fields == 0 => Ok(None),
+        _ => Err(()),
+    }
 }
 
-/// Text of a dangling `&`, with `allow_dangling_amp` and `trim_text_end`: the crate's content is ours with the white space at its end cut off.
-fn dangling_trim(told: &Told) -> bool {
-    let (from, to) = (told.answer[CONTENT_FROM], told.answer[CONTENT_TO]);
-    let Some(content) = told.case.document.get(from..to) else { return false };
-    let kept = content.iter().rposition(|&b| !is_whitespace(b)).map_or(0, |last| last + 1);
-    told.case.settings & DANGLING != 0
+/// The piece of our answer.
+fn piece<'a>(told: &Told<'a>) -> &'a [u8] {
+    told.case.document.get(told.answer[PIECE_FROM]..told.answer[PIECE_TO]).unwrap_or_default()
+}
+
+/// Text of a dangling `&` that ends in white space, with `allow_dangling_amp` and `trim_text_end`.
+fn is_dangling(told: &Told) -> bool {
+    told.answer[KIND] == TEXT
         && told.case.settings & TRIM_END != 0
-        && told.seen.kind == TEXT
-        && content.first() == Some(&b'&')
+        && piece(told).starts_with(b"&")
+        && piece(told).last().is_some_and(|&b| is_whitespace(b))
+}
+
+/// Ill-formed UTF-8 in text or in a reference that does not start where the refusal before has its place.
+fn is_ill_formed(told: &Told) -> bool {
+    told.answer[NUMBER] == ENCODING
+        && !piece(told).starts_with(b"<")
+        && told.answer[PIECE_FROM] != told.before.place + told.theirs.mark
+}
+
+/// Our content is the whole piece, the crate's is without the white space at its end.
+fn dangling_trim(told: &Told) -> bool {
+    let from = told.answer[PIECE_FROM];
+    let kept = piece(told).iter().rposition(|&b| !is_whitespace(b)).map_or(0, |last| last + 1);
+    told.case.settings & DANGLING != 0
+        && told.answer[CONTENT_TO] == told.answer[PIECE_TO]
         && told.seen.content == Some((from, from + kept))
 }
 
-/// Ill-formed UTF-8 in text or in a reference: the crate's place is still that of the refusal before, or 0.
+/// Our place is the piece's start, the crate's still that of the refusal before, or 0.
 fn encoding_place(told: &Told) -> bool {
-    told.seen.number == ENCODING
-        && told.case.document.get(told.answer[PIECE_FROM]).is_some_and(|&b| b != b'<')
-        && told.theirs.place() == told.before.place
+    told.answer[PLACE] == told.answer[PIECE_FROM] && told.theirs.place() == told.before.place
 }

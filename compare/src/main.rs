@@ -32,16 +32,16 @@ struct Wish {
 
 fn wish() -> Option<Wish> {
     let mut wish = Wish { amount: Amount::Full, seed: 1, files: Vec::new(), tags: false, faults: false, record: None };
-    let mut arguments = std::env::args().skip(1);
+    let mut arguments = std::env::args_os().skip(1);
     while let Some(argument) = arguments.next() {
-        match argument.as_str() {
+        match argument.to_str().unwrap_or_default() {
             "--quick" => wish.amount = Amount::Quick,
-            "--seed" => wish.seed = arguments.next()?.parse().ok()?,
+            "--seed" => wish.seed = arguments.next()?.to_str()?.parse().ok()?,
             "--tags" => wish.tags = true,
             "--faults" => wish.faults = true,
             "--record" => wish.record = Some(arguments.next()?.into()),
-            flag if flag.starts_with("--") => return None,
-            file => wish.files.push(file.into()),
+            flag if flag.starts_with('-') => return None,
+            _ => wish.files.push(argument.into()),
         }
     }
     Some(wish)
@@ -73,7 +73,7 @@ fn main() -> ExitCode {
 }
 
 fn compare(wish: Wish) -> ExitCode {
-    if let Some(file) = wish.files.iter().find(|file| std::fs::File::open(file).is_err()) {
+    if let Some(file) = wish.files.iter().find(|file| !file.is_file() || std::fs::File::open(file).is_err()) {
         eprintln!("compare: cannot read {}", file.display());
         return ExitCode::from(2);
     }
@@ -94,7 +94,8 @@ fn compare(wish: Wish) -> ExitCode {
     for (kept, difference) in &found {
         let mut bench = check::Bench::new(ours::Archive);
         if *difference == check::PANIC {
-            println!("a side panicked: {}", trace::case_line(&kept.case()));
+            println!("a side panicked:");
+            shrink::show_case(kept);
             continue;
         }
         let (kept, difference) = shrink::shrink(&mut bench, kept, *difference);

@@ -13,7 +13,7 @@ use std::time::{Duration, Instant};
 const THREADS: usize = 2;
 /// Differences that are kept to be shown.
 const KEPT: usize = 5;
-/// A family is left alone after so many differences in one job.
+/// A job is left after so many differences.
 const ENOUGH: u64 = 1_000;
 
 /// A sink that runs every case.
@@ -40,9 +40,11 @@ impl<E: Engine> Worker<E> {
         match run(self) {
             Ok(flow) => flow,
             Err(_) => {
+                self.bench.reset();
                 self.keep_at = true;
                 let again = run(self);
                 self.keep_at = false;
+                self.bench.reset();
                 let case = self.at.clone();
                 self.tally.differences += 1;
                 self.found.push((case, PANIC));

@@ -63,16 +63,24 @@ pub fn shrink<E: Engine>(bench: &mut Bench<E>, kept: &Kept, difference: Differen
     }
 }
 
+/// Prints an input, or of a long one its settings and length: false for a long one.
+pub fn show_case(kept: &Kept) -> bool {
+    let long = kept.document.len() > 4_000;
+    match long {
+        true => println!("  {} {} and {} bytes", trace::letters(kept.settings), kept.slots, kept.document.len()),
+        false => println!("  {}", trace::case_line(&kept.case())),
+    }
+    !long
+}
+
 /// Prints an input, what differs in which call, and all answers up to that call.
 pub fn show<E: Engine>(engine: &mut E, kept: &Kept, difference: Difference) {
     let case = kept.case();
     let fields: Vec<&str> = (0..FIELDS.len()).filter(|i| difference.fields >> i & 1 == 1).map(|i| FIELDS[i]).collect();
     println!("difference in call {}: {}", difference.call, fields.join(", "));
-    if kept.document.len() > 4_000 {
-        println!("  {} {} and {} bytes", trace::letters(case.settings), case.slots, kept.document.len());
+    if !show_case(kept) {
         return;
     }
-    println!("  {}", trace::case_line(&case));
     for line in trace::our_lines(engine, &case, difference.call + 1) {
         println!("    ours       {line}");
     }

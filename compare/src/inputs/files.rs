@@ -40,7 +40,7 @@ pub fn families(paths: Vec<PathBuf>) -> Vec<Family> {
     let again = paths.clone();
     let plain = Family::new("files", paths.len(), move |job, sink| match fs::read(&paths[job]) {
         Ok(document) => sink.each(&document, &several(), 512),
-        Err(_) => ON,
+        Err(error) => panic!("{}: {error}", paths[job].display()),
     });
     let without = Family::new("files with their DOCTYPE taken out", again.len(), move |job, sink| {
         match fs::read(&again[job]).ok().and_then(|document| without_doctype(&document)) {

@@ -3,7 +3,7 @@
 use super::*;
 
 pub fn families(amount: Amount) -> Vec<Family> {
-    vec![short(), deep(), long(amount), longest(amount)]
+    vec![short(), deep(), names(), long(amount), longest(amount)]
 }
 
 /// No bytes and one byte, under all settings and small stacks.
@@ -36,6 +36,37 @@ fn deep() -> Family {
     })
 }
 
+/// Names of many lengths in every kind of tag, closed by themselves, and by names that are shorter, longer or other in one byte.
+fn names() -> Family {
+    const LENGTHS: &[usize] = &[7, 8, 9, 15, 16, 17, 31, 32, 33, 63, 64, 65, 127, 128, 129, 255, 256, 257, 600, 4097, 65_535, 65_537, 300_000];
+    Family::new("long names", LENGTHS.len(), |job, sink| {
+        let length = LENGTHS[job];
+        let name = "n".repeat(length);
+        let settings = combinations(&[NAMES, TRIM_NAMES, EXPAND]);
+        let spaces = " ".repeat(length);
+        for document in [
+            format!("<{name}>t</{name}>"),
+            format!("<{name}\t/></{name}\n>"),
+            format!("<{name}></{name}{spaces}>"),
+            format!("<a><{name}></{name}n></a>"),
+            format!("<a><{name}></{}></a>", &name[1..]),
+            format!("</{name}>"),
+            format!("<?{name}?><?{name} {name}?>"),
+            format!("<?xml{name}?><?xml {name}"),
+        ] {
+            sink.each(document.as_bytes(), &settings, 8)?;
+        }
+        for at in [0, 1, 3, 4, 7, 8, 15, 16, 31, 32, 63, 64, length / 2, length - 2, length - 1] {
+            let mut document = format!("<a><{name}></{name}></a>").into_bytes();
+            if let Some(byte) = document.get_mut(length + 7 + at.min(length - 1)) {
+                *byte = b'm';
+            }
+            sink.each(&document, &settings, 8)?;
+        }
+        ON
+    })
+}
+
 /// What a long document is made of, again and again, and what comes behind it.
 const REPEATED: &[(&[u8], &[u8])] = &[
     (b"text ", b""),
@@ -60,6 +91,9 @@ const ENDS: &[(&[u8], &[u8], &[u8])] = &[
     (b"<![CDATA[", b"d", b"]]>"),
     (b"<?p ", b"i", b"?>"),
     (b"<", b"n", b""),
+    (b"<", b"n", b"/>"),
+    (b"t", b" ", b"<a>"),
+    (b"t", b" ", b""),
     (b"&", b"r", b";"),
     (b"", b" \r\n\t", b""),
     (b"\xEF\xBB\xBF", b"\xE2\x82\xAC", b"<a>"),
