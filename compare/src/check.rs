@@ -134,6 +134,9 @@ impl<E: Engine> Bench<E> {
             return Ok(());
         }
         let mut theirs = Theirs::new(case.document, case.settings);
+        if (theirs.phase(), theirs.position(), theirs.place(), theirs.depth()) != (INIT, 0, 0, 0) {
+            return Err(Difference { call: 0, fields: MAKING });
+        }
         let mut eofs = 0;
         let mut call = 0;
         while eofs < 2 {
@@ -146,7 +149,7 @@ impl<E: Engine> Bench<E> {
             let before = Before::of(&theirs);
             let seen = theirs.read();
             let mut fields = self.compare(case, &before, &theirs, &seen, returned);
-            if fields & STACK == 0 && !self.names_hold(case, &theirs, call) {
+            if fields & STACK == 0 && !self.names_hold(case, &theirs, call.is_multiple_of(64) || seen.kind == EOF) {
                 fields |= OPEN;
             }
             let told = listed::Told { case, answer: &self.answer, before: &before, theirs: &theirs, seen: &seen };
@@ -237,7 +240,7 @@ impl<E: Engine> Bench<E> {
             fields |= BYTES;
         }
         let (from, to) = (self.answer[CONTENT_FROM], self.answer[CONTENT_TO]);
-        if content(case.document, from, to) != (0, [from, to]) {
+        if self.engine.content(case.document, from, to) != (0, [from, to]) {
             fields |= PART;
         }
         fields | self.margins()
@@ -315,13 +318,13 @@ impl<E: Engine> Bench<E> {
         Ok(())
     }
 
-    /// The open names of the crate are the spans on our stack, in order; of many names all in every 64th call, else the innermost.
-    fn names_hold(&self, case: &Case, theirs: &Theirs, call: usize) -> bool {
+    /// The open names of the crate are the spans on our stack, in order; of many names only the innermost, if not all are asked for.
+    fn names_hold(&self, case: &Case, theirs: &Theirs, all: bool) -> bool {
         let (names, starts) = theirs.open_names();
         if starts.len() > capacity(case.slots) {
             return false;
         }
-        let outer = if starts.len() <= SMALL || call.is_multiple_of(64) { 0 } else { starts.len() - 8 };
+        let outer = if starts.len() <= SMALL || all { 0 } else { starts.len() - 8 };
         let mut end = names.len();
         for (&start, span) in starts.iter().zip(self.stack.chunks_exact(2)).skip(outer).rev() {
             if case.document.get(span[0]..span[1]) != names.as_bytes().get(start..end) {

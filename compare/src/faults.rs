@@ -14,14 +14,27 @@ pub struct Fault {
     settings: fn(u8) -> u8,
     when: fn(&Call) -> bool,
     then: fn(&mut Call),
+    /// What is made of the number and the state that a reader is made with, and of a part that is handed out.
+    made: fn(&mut usize, &mut [usize]),
+    part: fn(&mut Part),
 }
 
+const SOUND: Fault = Fault { name: "none", settings: |s| s, when: |_| false, then: |_| (), made: |_, _| (), part: |_| () };
+
 const fn flag(name: &'static str, settings: fn(u8) -> u8) -> Fault {
-    Fault { name, settings, when: |_| false, then: |_| () }
+    Fault { name, settings, ..SOUND }
 }
 
 const fn act(name: &'static str, when: fn(&Call) -> bool, then: fn(&mut Call)) -> Fault {
-    Fault { name, settings: |s| s, when, then }
+    Fault { name, when, then, ..SOUND }
+}
+
+const fn making(name: &'static str, made: fn(&mut usize, &mut [usize])) -> Fault {
+    Fault { name, made, ..SOUND }
+}
+
+const fn parting(name: &'static str, part: fn(&mut Part)) -> Fault {
+    Fault { name, part, ..SOUND }
 }
 
 /// A call that was answered, for a fault to change.
@@ -133,7 +146,9 @@ struct Faulty {
 impl Engine for Faulty {
     fn make(&mut self, document: &[u8], settings: usize, state: &mut [usize]) -> usize {
         (self.last_place, self.eofs) = (0, 0);
-        Archive.make(document, settings, state)
+        let mut number = Archive.make(document, settings, state);
+        (self.fault.made)(&mut number, state);
+        number
     }
 
     fn read(&mut self, document: &[u8], stack: &mut [usize], state: &mut [usize], answer: &mut [usize]) -> usize {
@@ -153,6 +168,12 @@ impl Engine for Faulty {
         }
         self.eofs += (answer[KIND] == EOF) as usize;
         returned
+    }
+
+    fn content(&mut self, document: &[u8], from: usize, to: usize) -> (usize, Part) {
+        let (number, mut part) = Archive.content(document, from, to);
+        (self.fault.part)(&mut part);
+        (number, part)
     }
 }
 

@@ -10,6 +10,7 @@ mod ours;
 mod record;
 mod run;
 mod scanners;
+mod settings;
 mod shrink;
 mod summary;
 mod theirs;
@@ -77,8 +78,8 @@ fn compare(wish: Wish) -> ExitCode {
         eprintln!("compare: cannot read {}", file.display());
         return ExitCode::from(2);
     }
-    if ours::default_settings() != theirs::default_settings() {
-        println!("compare: the default settings differ");
+    if ours::default_settings() != theirs::default_settings() || !settings::alike() {
+        println!("compare: the default settings differ, or what the functions make of settings");
         return ExitCode::FAILURE;
     }
     let refuted = scanners::refuted();

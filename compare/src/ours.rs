@@ -80,7 +80,11 @@ pub fn capacity(slots: usize) -> usize {
 pub trait Engine {
     fn make(&mut self, document: &[u8], settings: usize, state: &mut [usize]) -> usize;
     fn read(&mut self, document: &[u8], stack: &mut [usize], state: &mut [usize], answer: &mut [usize]) -> usize;
+    /// The part of the document that is handed out for a span: the number answered, and the part's two ends.
+    fn content(&mut self, document: &[u8], from: usize, to: usize) -> (usize, Part);
 }
+
+pub type Part = [usize; lent::PART_SLOTS];
 
 pub struct Archive;
 
@@ -92,15 +96,14 @@ impl Engine for Archive {
     fn read(&mut self, document: &[u8], stack: &mut [usize], state: &mut [usize], answer: &mut [usize]) -> usize {
         lent::read_event(document, stack, state, answer)
     }
+
+    fn content(&mut self, document: &[u8], from: usize, to: usize) -> (usize, Part) {
+        let mut part = [usize::MAX; lent::PART_SLOTS];
+        (lent::content(document, from, to, &mut part), part)
+    }
 }
 
 /// The settings that the archive gives a reader by default.
 pub fn default_settings() -> usize {
     lent::default_settings()
-}
-
-/// The part of the document that the archive hands out for a span: its number and the part's two ends.
-pub fn content(document: &[u8], from: usize, to: usize) -> (usize, [usize; lent::PART_SLOTS]) {
-    let mut part = [usize::MAX; lent::PART_SLOTS];
-    (lent::content(document, from, to, &mut part), part)
 }

@@ -1,9 +1,9 @@
 //! The faults, by what they spoil. Most act rarely.
 
-use super::{act, flag, Call, Fault};
+use super::{act, flag, making, parting, Call, Fault};
 use crate::ours::*;
 
-pub const ALL: &[&[Fault]] = &[FLAGS, LENGTHS, CONTENTS, POSITIONS, PLACES, NUMBERS, STACKS, UTF8, ENDS];
+pub const ALL: &[&[Fault]] = &[FLAGS, LENGTHS, CONTENTS, POSITIONS, PLACES, NUMBERS, STACKS, UTF8, ENDS, LENT];
 
 /// Text that is refused for its encoding.
 fn ill_formed(c: &Call) -> bool {
@@ -36,6 +36,9 @@ const FLAGS: &[Fault] = &[
 ];
 
 const LENGTHS: &[Fault] = &[
+    act("name length of a tag is 300 at most", |c| c.kind() == EMPTY && c.answer[NAME] > 300, |c| c.answer[NAME] = 300),
+    act("name length of an instruction is 300 at most", |c| c.kind() == PI && c.answer[NAME] > 300, |c| c.answer[NAME] = 300),
+    act("names of more than 65,535 bytes have no length", |c| c.answer[NAME] > 65_535, |c| c.answer[NAME] = 0),
     act("name length of a declaration is 4", |c| c.kind() == DECL, |c| c.answer[NAME] = 4),
     act("name length of an instruction is its content's", |c| c.kind() == PI, |c| c.answer[NAME] = c.content().len()),
     act(
@@ -74,7 +77,21 @@ const LENGTHS: &[Fault] = &[
     act("name length of a long name in a byte", |c| c.kind() == START || c.kind() == EMPTY, |c| c.answer[NAME] &= 127),
 ];
 
+/// Text of a dangling `&` that ends in a space.
+fn dangling(c: &Call) -> bool {
+    c.kind() == TEXT && c.on(TRIM_END) && c.content().starts_with(b"&") && c.content().ends_with(b" ")
+}
+
 const CONTENTS: &[Fault] = &[
+    act("text of a dangling ampersand loses a space", dangling, |c| c.answer[CONTENT_TO] -= 1),
+    act(
+        "text of a dangling ampersand is trimmed",
+        dangling,
+        |c| {
+            let kept = c.content().iter().rposition(|b| !b.is_ascii_whitespace()).map_or(0, |last| last + 1);
+            c.answer[CONTENT_TO] = c.answer[CONTENT_FROM] + kept;
+        },
+    ),
     act(
         "character data that ends in a bracket is cut",
         |c| c.kind() == CDATA && c.content().ends_with(b"]"),
@@ -226,6 +243,9 @@ const PLACES: &[Fault] = &[
     ),
     act("place of 9 is the piece's start", |c| c.number() == DOUBLE_HYPHEN, |c| c.answer[PLACE] = c.answer[PIECE_FROM]),
     act("the second refusal has the first one's place", |c| c.number() > 0 && c.last_place > 0, |c| c.answer[PLACE] = c.last_place),
+    act("place of ill-formed text is past the document", ill_formed, |c| c.answer[PLACE] = c.document.len() + 1),
+    act("place of ill-formed text is the piece's end", ill_formed, |c| c.answer[PLACE] = c.answer[PIECE_TO]),
+    act("place of ill-formed text is that of the refusal before", ill_formed, |c| c.answer[PLACE] = c.last_place),
     act("place of 12 is the piece's end", |c| c.number() == 12, |c| c.answer[PLACE] = c.answer[PIECE_TO]),
     act(
         "place of an unclosed value is its quote",
@@ -399,4 +419,21 @@ const ENDS: &[Fault] = &[
     act("a slot behind the answer is written", |c| c.kind() == PI && c.answer.len() > ANSWER_SLOTS, |c| c.answer[ANSWER_SLOTS] = 0),
     act("a slot behind the state is written", |c| c.kind() == DECL && c.state.len() > STATE_SLOTS, |c| c.state[STATE_SLOTS] = 0),
     act("expected left over in a later answer", |c| c.kind() == START && c.last_place > 0, |c| c.answer[EXPECTED_FROM] = 1),
+];
+
+const LENT: &[Fault] = &[
+    making("a reader begins behind the first byte", |number, state| state[POSITION] += (*number == 0) as usize),
+    making("a reader begins in text", |number, state| state[PHASE] += (*number == 0) as usize),
+    making("a document that is too long is not refused", |number, _| *number = 0),
+    making("17 for a document that is too long", |number, _| *number += (*number > 0) as usize),
+    parting("an empty part stands at the start", |part| {
+        if part[0] == part[1] {
+            *part = [0, 0]
+        }
+    }),
+    parting("a part past the 65,536th byte is empty", |part| {
+        if part[1] > 65_536 {
+            part[0] = part[1]
+        }
+    }),
 ];

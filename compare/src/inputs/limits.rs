@@ -96,6 +96,9 @@ const ENDS: &[(&[u8], &[u8], &[u8])] = &[
     (b"t", b" ", b""),
     (b"&", b"r", b";"),
     (b"", b" \r\n\t", b""),
+    (b"", b" \r\n\t", b"t"),
+    (b"", b"t", b"&a;"),
+    (b"&", b"r", b"&"),
     (b"\xEF\xBB\xBF", b"\xE2\x82\xAC", b"<a>"),
     (b"<r>", b"<stop n=\"1\">06:15</stop>\n", b"</r>"),
     (b"", b"<a></b>", b""),
@@ -129,7 +132,7 @@ fn long(amount: Amount) -> Family {
 
 /// Documents of 16,777,216 bytes, one fewer, and one more, which ours refuses to make a reader of.
 fn longest(amount: Amount) -> Family {
-    let settings = amount.of(vec![DEFAULT], vec![DEFAULT, !DEFAULT, DEFAULT | TRIM_START | TRIM_END]);
+    let settings = amount.of(vec![DEFAULT], vec![DEFAULT, !DEFAULT, DEFAULT | TRIM_START, DEFAULT | TRIM_START | TRIM_END]);
     let documents = amount.of(3, ENDS.len());
     Family::new("documents of the greatest length", 3 * documents, move |job, sink| {
         let (head, part, tail) = ENDS[job / 3];

@@ -1,0 +1,45 @@
+//! The functions of the settings: what `trim_text` and `enable_all_checks` make of all settings, in the Rust package and in the crate.
+
+use quick_xml::reader::Config as Theirs;
+use sporebasket::Config as Ours;
+
+macro_rules! flags {
+    ($config:expr) => {
+        [
+            &mut $config.allow_dangling_amp,
+            &mut $config.allow_unmatched_ends,
+            &mut $config.check_comments,
+            &mut $config.check_end_names,
+            &mut $config.expand_empty_elements,
+            &mut $config.trim_markup_names_in_closing_tags,
+            &mut $config.trim_text_start,
+            &mut $config.trim_text_end,
+        ]
+    };
+}
+
+fn set(flags: [&mut bool; 8], settings: u8) {
+    flags.into_iter().enumerate().for_each(|(bit, flag)| *flag = settings >> bit & 1 == 1);
+}
+
+/// The defaults are alike, and so is what each function makes of each of the 256 settings.
+pub fn alike() -> bool {
+    let (mut ours, mut theirs) = (Ours::default(), Theirs::default());
+    if flags!(ours) != flags!(theirs) {
+        return false;
+    }
+    (0..=u8::MAX).all(|settings| {
+        [false, true].into_iter().all(|on| {
+            set(flags!(ours), settings);
+            set(flags!(theirs), settings);
+            ours.trim_text(on);
+            theirs.trim_text(on);
+            let trimmed = flags!(ours) == flags!(theirs);
+            set(flags!(ours), settings);
+            set(flags!(theirs), settings);
+            ours.enable_all_checks(on);
+            theirs.enable_all_checks(on);
+            trimmed && flags!(ours) == flags!(theirs)
+        })
+    })
+}
