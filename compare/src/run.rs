@@ -141,8 +141,9 @@ pub fn run(families: &[Family]) -> (Vec<Tally>, Vec<(Kept, Difference)>) {
     std::thread::scope(|scope| {
         scope.spawn(|| shared.progress());
         let workers: Vec<_> = (0..THREADS).map(|_| scope.spawn(|| shared.work())).collect();
-        workers.into_iter().for_each(|worker| worker.join().expect("a thread of the comparison"));
+        let ended: Vec<_> = workers.into_iter().map(|worker| worker.join()).collect();
         shared.done.store(true, Relaxed);
+        ended.into_iter().for_each(|end| end.expect("a thread of the comparison"));
     });
     (shared.tallies.into_inner().unwrap(), shared.found.into_inner().unwrap())
 }

@@ -32,7 +32,7 @@ fn look(folder: &Path, paths: &mut Vec<PathBuf>) {
 
 fn fits(path: &Path) -> bool {
     let ending = path.extension().and_then(|e| e.to_str()).unwrap_or_default();
-    ENDINGS.contains(&ending) && fs::metadata(path).is_ok_and(|m| m.len() <= LARGEST)
+    ENDINGS.contains(&ending) && fs::File::open(path).and_then(|file| file.metadata()).is_ok_and(|m| m.len() <= LARGEST)
 }
 
 /// A job for each file.
