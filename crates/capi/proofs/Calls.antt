@@ -13,14 +13,14 @@ use Rattle.state.specs.declared.answer.Values.{Values}
 use Rattle.state.specs.declared.run.Reader.{Reader}
 use Rattle.state.specs.declared.run.Step.{Step}
 use Rattle.state.specs.declared.run.Made.{Made}
-use Rattle.state.specs.Make.{made}
+use Rattle.state.specs.Make.{made, badAnswer}
 use Rattle.state.specs.Place.{span}
 use Rattle.state.specs.Values.{refusalValues, valuesOf}
 use Rattle.reader.specs.Step.{step, Stepped}
 use Rattle.capi.specs.declared.slots.Held.{Held}
 use Rattle.capi.specs.Numbers.{configOf, stateNumbers, stateSlots, valuesNumbers, answerSlots, heldOf}
 use Rattle.capi.specs.Slots.{put, placed, partNumbers, partSlots}
-use Rattle.capi.specs.Calls.{bad, badNumber, madeState, Opened, lentTo, answerTo, Called, Parted}
+use Rattle.capi.specs.Calls.{badNumber, madeState, Opened, lentTo, answerTo, Called, Parted}
 use Rattle.capi.proofs.Puts.{put-nothing}
 
 module _ (doc : List ℕ) where
@@ -72,10 +72,10 @@ module _ (doc : List ℕ) where
             slots = rw k (told ∙ ap (λ (x : Values). put answer (valuesNumbers x)) values);
           }
 
-      pub called-bad : (a : Answer) → h ≡ Held.Nothing → a ≡ bad → v ≡ valuesOf a → Called doc stack state answer (v .number) stack state answer'
+      pub called-bad : (a : Answer) → h ≡ Held.Nothing → a ≡ badAnswer → v ≡ valuesOf a → Called doc stack state answer (v .number) stack state answer'
       called-bad a is b w =
           let k : lentTo state answer ≡ Held.Nothing = lent ∙ is in
-          let values : v ≡ valuesOf bad = w ∙ ap valuesOf b in
+          let values : v ≡ valuesOf badAnswer = w ∙ ap valuesOf b in
           record {
             said = rw k (ap (λ (x : Values). x .number) values);
             names = rw k refl;

@@ -11,7 +11,7 @@ use Rattle.ground.proofs.Choices.{pick-nlt}
 use Rattle.state.specs.declared.config.Config.{Config}
 use Rattle.state.specs.declared.run.Phase.{Phase}
 use Rattle.state.specs.declared.run.Reader.{Reader}
-use Rattle.state.specs.Place.{at, names}
+use Rattle.state.specs.Place.{at, depthOf}
 use Rattle.capi.specs.declared.slots.Held.{Held}
 use Rattle.capi.specs.Numbers.{bit, configOf, settingsNumber, phaseNumber, phaseOf, stateNumbers, heldOf}
 use Rattle.capi.specs.Slots.{put}
@@ -41,7 +41,7 @@ config-made n a b c d e f g h ha hb hc hd he hf hg hh = rw (ha, hb, hc, hd, he, 
 -- a reader made slot by slot
 pub held-made : (xs : List ℕ) (p : Phase) (c : Config) → 5 ≤ length xs → getD xs 0 0 ≤ 5 → getD xs 4 0 ≤ 255
     → p ≡ phaseOf (getD xs 0 0) → c ≡ configOf (getD xs 4 0)
-    → Held.Reader (record { phase = p; position = at (getD xs 1 0); depth = names (getD xs 2 0); length = getD xs 3 0; settings = c }) ≡ heldOf xs
+    → Held.Reader (record { phase = p; position = at (getD xs 1 0); depth = depthOf (getD xs 2 0); length = getD xs 3 0; settings = c }) ≡ heldOf xs
 unfolding heldOf
 held-made xs p c l m n hp hc =
     pick-nlt _ _ _ _ _ l

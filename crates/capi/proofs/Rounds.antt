@@ -13,7 +13,7 @@ use Rattle.ground.proofs.Choices.{pick-cases, pick-nlt}
 use Rattle.state.specs.declared.config.Config.{Config}
 use Rattle.state.specs.declared.run.Phase.{Phase}
 use Rattle.state.specs.declared.run.Reader.{Reader}
-use Rattle.state.specs.Place.{at, names}
+use Rattle.state.specs.Place.{at, depthOf}
 use Rattle.capi.specs.declared.slots.Held.{Held}
 use Rattle.capi.specs.Numbers.{bit, configOf, settingsNumber, phaseNumber, phaseOf, stateNumbers, stateSlots, heldOf}
 use Rattle.capi.specs.Slots.{put}
@@ -191,7 +191,7 @@ five xs l =
 
 -- the reader that is made of slots
 abbrev pub madeOf : List ℕ → Reader
-madeOf xs = record { phase = phaseOf (getD xs 0 0); position = at (getD xs 1 0); depth = names (getD xs 2 0); length = getD xs 3 0; settings = configOf (getD xs 4 0) }
+madeOf xs = record { phase = phaseOf (getD xs 0 0); position = at (getD xs 1 0); depth = depthOf (getD xs 2 0); length = getD xs 3 0; settings = configOf (getD xs 4 0) }
 
 -- it has those numbers
 numbers-kept : (xs : List ℕ) → stateSlots ≤ length xs → getD xs 0 0 ≤ 5 → getD xs 4 0 ≤ 255 → put xs (stateNumbers (madeOf xs)) ≡ xs

@@ -25,7 +25,7 @@ use Rattle.demands.proofs.Demand1.{bad-state-exactly-when-unsound, unsound-chan
 use Rattle.capi.specs.declared.slots.Held.{Held}
 use Rattle.capi.specs.Numbers.{configOf, stateNumbers, stateSlots, valuesNumbers, answerSlots, heldOf}
 use Rattle.capi.specs.Slots.{put, placed}
-use Rattle.capi.specs.Calls.{bad, badNumber, madeNumber, madeState, Opened, lentTo, Called}
+use Rattle.capi.specs.Calls.{badNumber, madeNumber, madeState, Opened, lentTo, Called}
 use Rattle.capi.proofs.Rounds.{holds, what-is-stored-is-held, what-is-held-is-stored}
 
 -- what a host holds: the slots of its state hold this reader

@@ -5,11 +5,10 @@ use mathlib.Core.List.{List}
 use lib.ListN.{length}
 use lib.Dec.{ltb}
 use Rattle.ground.specs.Choose.{pick}
-use Rattle.state.specs.declared.answer.Error.{Error}
 use Rattle.state.specs.declared.answer.Answer.{Answer}
 use Rattle.state.specs.declared.run.Made.{Made}
-use Rattle.state.specs.Make.{made, refusal}
-use Rattle.state.specs.Place.{at, span}
+use Rattle.state.specs.Make.{made, badAnswer}
+use Rattle.state.specs.Place.{span}
 use Rattle.state.specs.Values.{numberedOf, valuesOf}
 use Rattle.reader.specs.Names.{written}
 use Rattle.reader.specs.Step.{step}
@@ -17,12 +16,9 @@ use Rattle.capi.specs.declared.slots.Held.{Held}
 use Rattle.capi.specs.Numbers.{configOf, stateNumbers, stateSlots, valuesNumbers, answerSlots, heldOf}
 use Rattle.capi.specs.Slots.{put, placed, partNumbers, partSlots}
 
--- 17, "bad state": "all unchanged, place 0", "the piece of 16 and 17 is 0..0"
-abbrev pub bad : Answer
-bad = Answer.Refused (refusal Error.BadState (at 0) (span 0 0))
-
+-- 17, "bad state"
 abbrev pub badNumber : ℕ
-badNumber = numberedOf Error.BadState .number
+badNumber = valuesOf badAnswer .number
 
 -- ---- making a reader
 
@@ -49,7 +45,7 @@ module _ (doc stack : List ℕ) where
   -- what is answered, and what the slots hold then
   abbrev pub answerTo : Held → Answer
   answerTo (Held.Reader r) = step doc stack r .answer
-  answerTo Held.Nothing = bad
+  answerTo Held.Nothing = badAnswer
 
   abbrev pub stackTo : Held → List ℕ
   stackTo (Held.Reader r) = written stack (r .depth .0) (step doc stack r .answer)

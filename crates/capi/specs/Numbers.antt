@@ -9,7 +9,7 @@ use Rattle.state.specs.declared.config.Config.{Config}
 use Rattle.state.specs.declared.answer.Values.{Values}
 use Rattle.state.specs.declared.run.Phase.{Phase}
 use Rattle.state.specs.declared.run.Reader.{Reader}
-use Rattle.state.specs.Place.{at, names}
+use Rattle.state.specs.Place.{at, depthOf}
 use Rattle.capi.specs.declared.slots.Held.{Held}
 
 -- the phases, from 0 on
@@ -74,7 +74,7 @@ heldOf xs =
     Held.Nothing
     (pick (ltb 255 (getD xs 4 0))
     Held.Nothing
-    (Held.Reader (record { phase = phaseOf (getD xs 0 0); position = at (getD xs 1 0); depth = names (getD xs 2 0); length = getD xs 3 0; settings = configOf (getD xs 4 0) }))))
+    (Held.Reader (record { phase = phaseOf (getD xs 0 0); position = at (getD xs 1 0); depth = depthOf (getD xs 2 0); length = getD xs 3 0; settings = configOf (getD xs 4 0) }))))
 
 -- an answer's values, and how many slots that are
 unfoldable pub valuesNumbers : Values → List ℕ

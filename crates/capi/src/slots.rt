@@ -13,7 +13,7 @@ use state::run::Reader;
 ghost use mathlib.Core.Path.{_≡_};
 ghost use Rattle.capi.specs.Numbers.{phaseNumber, phaseOf, heldOf, stateNumbers, valuesNumbers};
 ghost use Rattle.capi.specs.Slots.{put as putIn, placed as placedOf};
-ghost use Rattle.capi.specs.Calls.{bad as badOf};
+ghost use Rattle.state.specs.Make.{badAnswer};
 
 // How many slots each takes.
 pub const STATE_SLOTS: usize = 5;
@@ -136,7 +136,7 @@ pub fn tell(answer: &mut [usize], values: Values)
 
 // The refusal of slots that hold no reader.
 pub fn bad() -> Answer
-    ensures { λ r. ⌜ r ≡ badOf ⌝ }
+    ensures { λ r. ⌜ r ≡ badAnswer ⌝ }
 {
     Answer::Refused(Refusal {
         error: Error::BadState,

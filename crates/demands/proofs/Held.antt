@@ -22,7 +22,7 @@ use Rattle.state.proofs.Room.{capacity-slots}
 use Rattle.reader.specs.Names.{latest, pushed, nameOf, bytes, written}
 use Rattle.reader.specs.Sound.{inPlace, sound}
 use Rattle.reader.specs.Step.{step}
-use Rattle.reader.proofs.Outside.{Turned, Named, keeps, opens, closes, mismatches, strays, unmatches, Quiet, Tagged, name-within, step-turn}
+use Rattle.reader.proofs.Outside.{Turned, Named, keeps, opens, closes, mismatches, closes-nothing, unmatches, Quiet, Tagged, name-within, step-turn}
 use Rattle.reader.proofs.States.{true-sound}
 use Rattle.demands.specs.Run.{World, said, call, run}
 use Rattle.demands.specs.Open.{entries, opened, newest, rest, leftOpen}
@@ -140,7 +140,7 @@ module _ (doc : List ℕ) (w : World) (deep : w .reader .depth .0 ≤ capacity (
   does (mismatches m z e on x y) =
       let n : valuesOf (said doc w) .kind ≡ kindNumber Kind.Start → ⊥ = λ e. let z = no-kind (said doc w) (omega arith) in omega arith in
       mismatching m (rw (other-writes (said doc w) (w .stack) d n, e) (entries-latest (w .stack) d z)) on x y
-  does (strays k z e on) = straying k (none-open _ _ z) (none-open _ _ e) on
+  does (closes-nothing k z e on) = straying k (none-open _ _ z) (none-open _ _ e) on
   does (unmatches m z e off) = unmatching m (none-open _ _ z) (none-open _ _ e) off
 
   stays-deep : Named doc (capacity (length (w .stack))) (newest w) (w .reader) (step doc (w .stack) (w .reader))
@@ -149,7 +149,7 @@ module _ (doc : List ℕ) (w : World) (deep : w .reader .depth .0 ≤ capacity (
   stays-deep (opens k room e tag) = omega arith
   stays-deep (closes k z e same) = omega arith
   stays-deep (mismatches m z e on x y) = omega arith
-  stays-deep (strays k z e on) = omega arith
+  stays-deep (closes-nothing k z e on) = omega arith
   stays-deep (unmatches m z e off) = omega arith
 
 -- ---- what holds between two calls

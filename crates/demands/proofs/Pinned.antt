@@ -7,7 +7,7 @@ use mathlib.Core.List.{List}
 use lib.ListN.{getD}
 use Rattle.ground.specs.Equal.{begins}
 use Rattle.white.specs.White.{until}
-use Rattle.utf8.specs.Utf8.{begins as beginsChar, taken as takenBy, checkFrom}
+use Rattle.utf8.specs.Utf8.{inRanges, rowLen, checkFrom}
 use Rattle.parser.specs.Machine.{feed}
 use Rattle.state.specs.declared.answer.Kind.{Kind}
 use Rattle.state.specs.declared.answer.Answer.{Answer}
@@ -21,12 +21,12 @@ use Rattle.state.specs.Place.{inner}
 use Rattle.state.specs.Settings.{defaults}
 use Rattle.state.specs.Values.{valuesOf}
 use Rattle.state.specs.Make.{fresh, moved, withDepth, told}
-use Rattle.emit.specs.Start.{slashed, tag, opened, emitStart}
+use Rattle.emit.specs.Start.{slashed, tag, opening, emitStart}
 use Rattle.reader.specs.Cut.{whole, cutTag, cutMarkup, cutNext}
 use Rattle.reader.specs.Names.{latest, pushed, written}
 use Rattle.reader.specs.Sound.{inPlace, sound}
 use Rattle.reader.specs.Step.{emitted, checked, taken, skipped, stepText, begin, stepPhase, step, Stepped}
-use Rattle.demands.specs.Table.{event, slots64, timetable}
+use Rattle.demands.specs.Table.{eventRow, slots64, timetable}
 
 -- THEOREM: a second answer and a second stack that meet the promise are the first
 pub only-one : (doc stack : List ℕ) (r : Reader) (s s′ : Step) (after after′ : List ℕ)
@@ -38,12 +38,12 @@ only-one doc stack r s s′ after after′ p q = (p .outcome ∙ sym (q .outcome
 abbrev first : Reader
 first = fresh 22 defaults
 
-first-step : (valuesOf (step timetable slots64 first .answer) ≡ event Kind.Start 0 3 1 2 1) × (step timetable slots64 first .reader .position .0 ≡ 3)
-unfolding step stepPhase stepText begin skipped taken checked emitted sound inPlace latest cutNext cutMarkup cutTag whole emitStart opened tag slashed told withDepth moved fresh inner capacity feed checkFrom takenBy beginsChar until begins
+first-step : (valuesOf (step timetable slots64 first .answer) ≡ eventRow Kind.Start 0 3 1 2 1) × (step timetable slots64 first .reader .position .0 ≡ 3)
+unfolding step stepPhase stepText begin skipped taken checked emitted sound inPlace latest cutNext cutMarkup cutTag whole emitStart opening tag slashed told withDepth moved fresh inner capacity feed checkFrom rowLen inRanges until begins
 first-step = (refl, refl)
 
 first-stack : getD (written slots64 (first .depth .0) (step timetable slots64 first .answer)) 1 0 ≡ 2
-unfolding written pushed step stepPhase stepText begin skipped taken checked emitted sound inPlace latest cutNext cutMarkup cutTag whole emitStart opened tag slashed told withDepth moved fresh inner capacity feed checkFrom takenBy beginsChar until begins
+unfolding written pushed step stepPhase stepText begin skipped taken checked emitted sound inPlace latest cutNext cutMarkup cutTag whole emitStart opening tag slashed told withDepth moved fresh inner capacity feed checkFrom rowLen inRanges until begins
 first-stack = refl
 
 first-at : first .position .0 ≡ 0
@@ -52,7 +52,7 @@ first-at = refl
 
 -- s and `after` meet the promise of that call
 module _ (s : Step) (after : List ℕ) (p : Stepped timetable slots64 first s after) where
-  says : valuesOf (s .answer) ≡ event Kind.Start 0 3 1 2 1
+  says : valuesOf (s .answer) ≡ eventRow Kind.Start 0 3 1 2 1
   says = ap (λ (x : Step). valuesOf (x .answer)) (p .outcome) ∙ first-step .0
 
   stands : s .reader .position .0 ≡ 3

@@ -3,7 +3,7 @@ use mathlib.Core.Path.{_≡_, refl}
 use mathlib.Core.List.{map}
 use Rattle.ground.specs.Equal.{begins, same}
 use Rattle.white.specs.White.{until, keptOf}
-use Rattle.utf8.specs.Utf8.{begins as beginsChar, taken as takenBy, checkFrom}
+use Rattle.utf8.specs.Utf8.{inRanges, rowLen, checkFrom}
 use Rattle.parser.specs.Machine.{feed}
 use Rattle.state.specs.Limits.{capacity}
 use Rattle.state.specs.Place.{inner}
@@ -13,7 +13,7 @@ use Rattle.emit.specs.Reference.{emitRef, emitDangling}
 use Rattle.emit.specs.Bang.{bangEvent, emitComment, emitCData}
 use Rattle.emit.specs.Question.{isDecl, questionEvent, emitQuestionMark}
 use Rattle.emit.specs.End.{closingName, endEvent, unmatched, differs, matched, emitEnd, closeExpandedEmpty}
-use Rattle.emit.specs.Start.{slashed, tag, opened, emitStart}
+use Rattle.emit.specs.Start.{slashed, tag, opening, emitStart}
 use Rattle.reader.specs.Cut.{whole, stop, phaseAt, cutText, cutRef, unclosedTag, cutTag, cutMarked, cutBang, cutQuestion, cutMarkup, cutNext}
 use Rattle.reader.specs.Names.{latest, pushed, written}
 use Rattle.reader.specs.Sound.{inPlace, sound}
@@ -25,10 +25,10 @@ use Rattle.demands.specs.Table.{shown, given, wanted, table}
 
 -- THEOREM: what the definition gives for each row of the table is what document 01 has
 pub worked : map given table ≡ map wanted table
-unfolding given wanted shown table run call step stepPhase stepText begin skipped taken checked emitted sound inPlace latest pushed written cutNext cutMarkup cutQuestion cutBang cutMarked cutTag unclosedTag cutRef cutText phaseAt whole stop emitStart opened tag slashed emitEnd matched differs unmatched endEvent closingName emitQuestionMark questionEvent isDecl emitCData emitComment bangEvent emitDangling emitRef emitLastText emitText textContent stopped refused ended told withDepth moved fresh inner capacity feed checkFrom takenBy beginsChar keptOf until begins same
+unfolding given wanted shown table run call step stepPhase stepText begin skipped taken checked emitted sound inPlace latest pushed written cutNext cutMarkup cutQuestion cutBang cutMarked cutTag unclosedTag cutRef cutText phaseAt whole stop emitStart opening tag slashed emitEnd matched differs unmatched endEvent closingName emitQuestionMark questionEvent isDecl emitCData emitComment bangEvent emitDangling emitRef emitLastText emitText textContent stopped refused ended told withDepth moved fresh inner capacity feed checkFrom rowLen inRanges keptOf until begins same
 worked = refl
 
 -- THEOREM: the names that are open after each call of the examples of demand 3 are those listed
 pub openings-worked : map turnsOf openings ≡ map listed openings
-unfolding turnsOf listed turnsFrom openings entries closeExpandedEmpty run call step stepPhase stepText begin skipped taken checked emitted sound inPlace latest pushed written cutNext cutMarkup cutQuestion cutBang cutMarked cutTag unclosedTag cutRef cutText phaseAt whole stop emitStart opened tag slashed emitEnd matched differs unmatched endEvent closingName emitQuestionMark questionEvent isDecl emitCData emitComment bangEvent emitDangling emitRef emitLastText emitText textContent stopped refused ended told withDepth moved fresh inner capacity feed checkFrom takenBy beginsChar keptOf until begins same
+unfolding turnsOf listed turnsFrom openings entries closeExpandedEmpty run call step stepPhase stepText begin skipped taken checked emitted sound inPlace latest pushed written cutNext cutMarkup cutQuestion cutBang cutMarked cutTag unclosedTag cutRef cutText phaseAt whole stop emitStart opening tag slashed emitEnd matched differs unmatched endEvent closingName emitQuestionMark questionEvent isDecl emitCData emitComment bangEvent emitDangling emitRef emitLastText emitText textContent stopped refused ended told withDepth moved fresh inner capacity feed checkFrom rowLen inRanges keptOf until begins same
 openings-worked = refl

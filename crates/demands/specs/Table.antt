@@ -12,8 +12,8 @@ use Rattle.state.specs.Values.{kindNumber, valuesOf}
 use Rattle.demands.specs.Run.{World, run}
 
 -- an event: its kind, the piece, the content and the name length
-abbrev pub event : Kind → ℕ → ℕ → ℕ → ℕ → ℕ → Values
-event kind a b c d name =
+abbrev pub eventRow : Kind → ℕ → ℕ → ℕ → ℕ → ℕ → Values
+eventRow kind a b c d name =
     record {
       kind = kindNumber kind;
       number = 0;
@@ -26,8 +26,8 @@ event kind a b c d name =
     }
 
 -- a refusal with spans: its number, its place, the piece, the expected name and the one found
-abbrev pub mismatch : ℕ → ℕ → ℕ → ℕ → Span → Span → Values
-mismatch number place a b expected found =
+abbrev pub mismatchRow : ℕ → ℕ → ℕ → ℕ → Span → Span → Values
+mismatchRow number place a b expected found =
     record {
       kind = 0;
       number = number;
@@ -40,15 +40,15 @@ mismatch number place a b expected found =
     }
 
 -- any other refusal: its number, its place and the piece
-abbrev pub refusal : ℕ → ℕ → ℕ → ℕ → Values
-refusal number place a b = mismatch number place a b (span 0 0) (span 0 0)
+abbrev pub refusalRow : ℕ → ℕ → ℕ → ℕ → Values
+refusalRow number place a b = mismatchRow number place a b (span 0 0) (span 0 0)
 
 -- what some calls say, and what they leave
 pub record Shown : Type 0 where
   pub says : List Values
   pub phase : Phase
   pub position : ℕ
-  pub names : ℕ
+  pub depth : ℕ
 
 -- a document, and what as many calls show as it has answers listed
 pub record Row : Type 0 where
@@ -69,7 +69,7 @@ shown w =
       says = map valuesOf (reverse (w .answers));
       phase = w .reader .phase;
       position = w .reader .position .0;
-      names = w .reader .depth .0;
+      depth = w .reader .depth .0;
     }
 
 -- by the definition of a call, and by the table
@@ -80,85 +80,85 @@ unfoldable pub wanted : Row → Shown
 wanted x = x .shows
 
 abbrev pub row : List ℕ → List Values → Phase → ℕ → ℕ → Row
-row doc says phase position names = record { doc = doc; shows = record { says = says; phase = phase; position = position; names = names } }
+row doc says phase position depth = record { doc = doc; shows = record { says = says; phase = phase; position = position; depth = depth } }
 
 unfoldable pub table : List Row
 table =
     -- P1: no bytes
     (row []
-    (event Kind.Eof 0 0 0 0 0 ∷ [])
+    (eventRow Kind.Eof 0 0 0 0 0 ∷ [])
     Phase.Done 0 0)
     -- P2: `<t><r n="1"/>06:15</t>`
     ∷ (row timetable
-    (event Kind.Start 0 3 1 2 1
-    ∷ event Kind.Empty 3 13 4 11 1
-    ∷ event Kind.Text 13 18 13 18 0
-    ∷ event Kind.End 18 22 20 21 1
-    ∷ event Kind.Eof 22 22 22 22 0 ∷ [])
+    (eventRow Kind.Start 0 3 1 2 1
+    ∷ eventRow Kind.Empty 3 13 4 11 1
+    ∷ eventRow Kind.Text 13 18 13 18 0
+    ∷ eventRow Kind.End 18 22 20 21 1
+    ∷ eventRow Kind.Eof 22 22 22 22 0 ∷ [])
     Phase.Done 22 0)
     -- P3: `<a></b>`
     ∷ (row (60 ∷ 97 ∷ 62 ∷ 60 ∷ 47 ∷ 98 ∷ 62 ∷ [])
-    (event Kind.Start 0 3 1 2 1
-    ∷ mismatch 10 3 3 7 (span 1 2) (span 5 6) ∷ [])
+    (eventRow Kind.Start 0 3 1 2 1
+    ∷ mismatchRow 10 3 3 7 (span 1 2) (span 5 6) ∷ [])
     Phase.InsideText 7 0)
     -- P4: `</a>`
     ∷ (row (60 ∷ 47 ∷ 97 ∷ 62 ∷ [])
-    (mismatch 11 0 0 4 (span 0 0) (span 2 3) ∷ [])
+    (mismatchRow 11 0 0 4 (span 0 0) (span 2 3) ∷ [])
     Phase.InsideText 4 0)
     -- P5: `<?>`
     ∷ (row (60 ∷ 63 ∷ 62 ∷ [])
-    (refusal 6 0 0 3 ∷ [])
+    (refusalRow 6 0 0 3 ∷ [])
     Phase.Done 3 0)
     -- P6: `<??>`
     ∷ (row (60 ∷ 63 ∷ 63 ∷ 62 ∷ [])
-    (event Kind.PI 0 4 2 2 0 ∷ [])
+    (eventRow Kind.PI 0 4 2 2 0 ∷ [])
     Phase.InsideText 4 0)
     -- P7: `<!-->`
     ∷ (row (60 ∷ 33 ∷ 45 ∷ 45 ∷ 62 ∷ [])
-    (refusal 4 0 0 5 ∷ [])
+    (refusalRow 4 0 0 5 ∷ [])
     Phase.Done 5 0)
     -- P7: `<!--->`
     ∷ (row (60 ∷ 33 ∷ 45 ∷ 45 ∷ 45 ∷ 62 ∷ [])
-    (refusal 4 0 0 6 ∷ [])
+    (refusalRow 4 0 0 6 ∷ [])
     Phase.Done 6 0)
     -- P8: `<!---->`
     ∷ (row (60 ∷ 33 ∷ 45 ∷ 45 ∷ 45 ∷ 45 ∷ 62 ∷ [])
-    (event Kind.Comment 0 7 4 4 0 ∷ [])
+    (eventRow Kind.Comment 0 7 4 4 0 ∷ [])
     Phase.InsideText 7 0)
     -- P9: `< ></ >`
     ∷ (row (60 ∷ 32 ∷ 62 ∷ 60 ∷ 47 ∷ 32 ∷ 62 ∷ [])
-    (event Kind.Start 0 3 1 2 0
-    ∷ mismatch 10 3 3 7 (span 1 1) (span 5 6) ∷ [])
+    (eventRow Kind.Start 0 3 1 2 0
+    ∷ mismatchRow 10 3 3 7 (span 1 1) (span 5 6) ∷ [])
     Phase.InsideText 7 0)
     -- P10: `<a b='>'>`
     ∷ (row (60 ∷ 97 ∷ 32 ∷ 98 ∷ 61 ∷ 39 ∷ 62 ∷ 39 ∷ 62 ∷ [])
-    (event Kind.Start 0 9 1 8 1 ∷ [])
+    (eventRow Kind.Start 0 9 1 8 1 ∷ [])
     Phase.InsideText 9 1)
     -- P11: `<a b='>`
     ∷ (row (60 ∷ 97 ∷ 32 ∷ 98 ∷ 61 ∷ 39 ∷ 62 ∷ [])
-    (refusal 2 0 0 7 ∷ [])
+    (refusalRow 2 0 0 7 ∷ [])
     Phase.Done 7 0)
     -- P12: `<![]]>`
     ∷ (row (60 ∷ 33 ∷ 91 ∷ 93 ∷ 93 ∷ 62 ∷ [])
-    (refusal 5 0 0 6 ∷ [])
+    (refusalRow 5 0 0 6 ∷ [])
     Phase.Done 6 0)
     -- P13: `<!x>`
     ∷ (row (60 ∷ 33 ∷ 120 ∷ 62 ∷ [])
-    (refusal 8 0 0 0 ∷ [])
+    (refusalRow 8 0 0 0 ∷ [])
     Phase.Done 0 0)
     -- P14: `<!doctype x>`
     ∷ (row (60 ∷ 33 ∷ 100 ∷ 111 ∷ 99 ∷ 116 ∷ 121 ∷ 112 ∷ 101 ∷ 32 ∷ 120 ∷ 62 ∷ [])
-    (refusal 14 0 0 0 ∷ [])
+    (refusalRow 14 0 0 0 ∷ [])
     Phase.Done 0 0)
     -- P15: `a&b;c`
     ∷ (row (97 ∷ 38 ∷ 98 ∷ 59 ∷ 99 ∷ [])
-    (event Kind.Text 0 1 0 1 0
-    ∷ event Kind.GeneralRef 1 4 2 3 0
-    ∷ event Kind.Text 4 5 4 5 0 ∷ [])
+    (eventRow Kind.Text 0 1 0 1 0
+    ∷ eventRow Kind.GeneralRef 1 4 2 3 0
+    ∷ eventRow Kind.Text 4 5 4 5 0 ∷ [])
     Phase.Done 5 0)
     -- P16: `a&b`
     ∷ (row (97 ∷ 38 ∷ 98 ∷ [])
-    (event Kind.Text 0 1 0 1 0
-    ∷ refusal 12 1 1 3 ∷ [])
+    (eventRow Kind.Text 0 1 0 1 0
+    ∷ refusalRow 12 1 1 3 ∷ [])
     Phase.Done 3 0)
     ∷ []

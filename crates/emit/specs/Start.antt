@@ -29,8 +29,8 @@ unfoldable pub tag : List ℕ → Kind → Span → Span → Event
 tag doc kind piece content = event kind piece content (nameLen (part doc (content .from) (content .to)))
 
 -- "Start, name put on the stack"; 15: "name stack full", position "kept"
-unfoldable pub opened : Reader → Depth → Event → Phase → Step
-opened r capacity e next =
+unfoldable pub opening : Reader → Depth → Event → Phase → Step
+opening r capacity e next =
     pick (ltb (r .depth .0) (capacity .0))
     (told (withDepth r (further (r .depth))) e next)
     (stopped r Error.NameStackFull (at (e .piece .from)) (span (e .piece .from) (e .piece .from)))
@@ -41,6 +41,6 @@ unfoldable pub emitStart : List ℕ → Reader → Depth → Span → Step
 emitStart doc r capacity piece =
     pick (slashed doc piece)
     (pick (r .settings .«expand_empty_elements»)
-    (opened r capacity (tag doc Kind.Start piece (inner piece 1 2)) Phase.InsideEmpty)
+    (opening r capacity (tag doc Kind.Start piece (inner piece 1 2)) Phase.InsideEmpty)
     (told r (tag doc Kind.Empty piece (inner piece 1 2)) Phase.InsideText))
-    (opened r capacity (tag doc Kind.Start piece (inner piece 1 1)) Phase.InsideText)
+    (opening r capacity (tag doc Kind.Start piece (inner piece 1 1)) Phase.InsideText)

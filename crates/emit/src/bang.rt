@@ -25,7 +25,7 @@ pub fn emit_comment(reader: Reader, document: &[u8], piece: Span) -> Step
         if reader.settings.check_comments {
             checked_comment(reader, document, piece, content)
         } else {
-            event(reader, Kind::Comment, piece, content)
+            bang_event(reader, Kind::Comment, piece, content)
         }
     } else {
         reader.stop(Error::UnclosedComment, Position(piece.from), piece)
@@ -38,14 +38,14 @@ pub fn emit_cdata(reader: Reader, document: &[u8], piece: Span) -> Step
 {
     if starts_with(document, piece.from, b"<![CDATA[") {
         let content = piece.inner(9, 3);
-        event(reader, Kind::CData, piece, content)
+        bang_event(reader, Kind::CData, piece, content)
     } else {
         reader.stop(Error::UnclosedCData, Position(piece.from), piece)
     }
 }
 
 // The event of a comment or CDATA.
-fn event(reader: Reader, kind: Kind, piece: Span, content: Span) -> Step
+fn bang_event(reader: Reader, kind: Kind, piece: Span, content: Span) -> Step
     ensures { λ r. ⌜ r ≡ bangEvent reader kind piece content ⌝ }
 {
     reader.event(
@@ -64,10 +64,10 @@ fn checked_comment(reader: Reader, document: &[u8], piece: Span, content: Span) 
     ensures { λ r. ⌜ r ≡ checkedComment (now (document .entry)) reader piece content ⌝ }
 {
     let Found::At(second) = pair_end(document, content.from) else {
-        return event(reader, Kind::Comment, piece, content);
+        return bang_event(reader, Kind::Comment, piece, content);
     };
     if content.to < second {
-        event(reader, Kind::Comment, piece, content)
+        bang_event(reader, Kind::Comment, piece, content)
     } else {
         let place = hyphen_place(document, content.from, second - 1);
         reader.refuse(

@@ -24,13 +24,13 @@ pub fn emit_question_mark(reader: Reader, document: &[u8], piece: Span) -> Step
         reader.stop(Error::UnclosedPI, Position(piece.from), piece)
     } else {
         let content = piece.inner(2, 2);
-        let event = event(document, piece, content);
+        let event = question_event(document, piece, content);
         reader.event(event, Phase::InsideText)
     }
 }
 
 // A declaration, or a processing instruction with its name's length.
-fn event(document: &[u8], piece: Span, content: Span) -> Event
+fn question_event(document: &[u8], piece: Span, content: Span) -> Event
     ensures { λ r. ⌜ r ≡ questionEvent (now (document .entry)) piece content ⌝ }
 {
     if is_decl(document, content) {

@@ -11,7 +11,7 @@ use state::run::Reader;
 use state::run::Step;
 use white::name_len;
 ghost use mathlib.Core.Path.{_≡_};
-ghost use Rattle.emit.specs.Start.{slashed as slashedOf, tag as tagOf, opened as openedOf, emitStart};
+ghost use Rattle.emit.specs.Start.{slashed as slashedOf, tag as tagOf, opening as openingOf, emitStart};
 
 // A tag that is no closing one. `capacity` is how many names may be open.
 pub fn emit_start(reader: Reader, document: &[u8], capacity: Depth, piece: Span) -> Step
@@ -21,7 +21,7 @@ pub fn emit_start(reader: Reader, document: &[u8], capacity: Depth, piece: Span)
         let content = piece.inner(1, 2);
         if reader.settings.expand_empty_elements {
             let event = tag(document, Kind::Start, piece, content);
-            opened(reader, capacity, event, Phase::InsideEmpty)
+            opening(reader, capacity, event, Phase::InsideEmpty)
         } else {
             let event = tag(document, Kind::Empty, piece, content);
             reader.event(event, Phase::InsideText)
@@ -29,7 +29,7 @@ pub fn emit_start(reader: Reader, document: &[u8], capacity: Depth, piece: Span)
     } else {
         let content = piece.inner(1, 1);
         let event = tag(document, Kind::Start, piece, content);
-        opened(reader, capacity, event, Phase::InsideText)
+        opening(reader, capacity, event, Phase::InsideText)
     }
 }
 
@@ -59,8 +59,8 @@ fn tag(document: &[u8], kind: Kind, piece: Span, content: Span) -> Event
 }
 
 // A name is opened where there is room for it.
-fn opened(reader: Reader, capacity: Depth, event: Event, next: Phase) -> Step
-    ensures { λ r. ⌜ r ≡ openedOf reader capacity event next ⌝ }
+fn opening(reader: Reader, capacity: Depth, event: Event, next: Phase) -> Step
+    ensures { λ r. ⌜ r ≡ openingOf reader capacity event next ⌝ }
 {
     let depth = reader.depth;
     if depth.0 < capacity.0 {

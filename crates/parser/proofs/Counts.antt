@@ -11,7 +11,7 @@ use lib.Dec.{eqb, leb, ltb}
 use borrow.Author.Tests.{eqb-true, eqb-false, leb-true, leb-false, ltb-true, ltb-false}
 use Rattle.ground.proofs.Choices.{pick-cases}
 use Rattle.ground.specs.Bytes.{gt}
-use Rattle.parser.specs.Machine.{Next, go, stop}
+use Rattle.parser.specs.Machine.{Next, go, halt}
 use Rattle.parser.specs.Marks.{marksStep, seeing, passing, MarkedEnd, MarksLeft}
 use Rattle.parser.specs.declared.marks.Marks.{Marks}
 use Rattle.parser.proofs.Outcome.{Meets}
@@ -83,7 +83,7 @@ module _ (mark need opener : ℕ) (s : List ℕ) (from : ℕ) where
 
       module _ (e : m .left ≡ 0) where
         -- a `>` with the marks that it needs, or without
-        stops : getD s i 0 ≡ gt → need ≤ m .seen → Here stop
+        stops : getD s i 0 ≡ gt → need ≤ m .seen → Here halt
         stops b l = record { after = omega (arith, c .room); within = h; closes = b; marks = λ j z k. c .marks j z (omega arith) }
 
         goes : getD s i 0 ≡ gt → m .seen < need → Here (go (seeing 0))

@@ -5,7 +5,7 @@ use mathlib.Core.List.{List, [], _∷_}
 use lib.ListN.{length, getD, drop}
 use Rattle.ground.proofs.Choices.{choices}
 use Rattle.ground.proofs.Lists.{drop-next, drop-done}
-use Rattle.parser.specs.Machine.{Next, go, stop, Scan, found, going, stand, tick, feed, scanAt}
+use Rattle.parser.specs.Machine.{Next, go, halt, Scan, found, going, stand, tick, feed, scanAt}
 
 module _ {S : Type 0} (step : S → ℕ → Next S) where
   -- what is found stays found
@@ -31,8 +31,8 @@ module _ {S : Type 0} (step : S → ℕ → Next S) where
     pub scan-more : (t : S) → i < length a → step s (getD a i 0) ≡ go t → scanAt step s a i ≡ scanAt step t a (i + 1)
     scan-more t h e = scan-by (go t) h e
 
-    pub scan-stop : i < length a → step s (getD a i 0) ≡ stop → scanAt step s a i ≡ found i
-    scan-stop h e = scan-by stop h e ∙ feed-found i (i + 1) (drop (i + 1) a)
+    pub scan-halt : i < length a → step s (getD a i 0) ≡ halt → scanAt step s a i ≡ found i
+    scan-halt h e = scan-by halt h e ∙ feed-found i (i + 1) (drop (i + 1) a)
 
 -- ---- the turns and the ends of a loop that runs a machine, for any machine and any form `out` of its answer
 
@@ -45,7 +45,7 @@ module _ {S A : Type 0} (out : Scan S → A) (step : S → ℕ → Next S) (r : 
   pub run-end : length a ≤ i → x ≡ out (going s) → x ≡ out r
   run-end h e = e ∙ sym (ap out (v ∙ scan-end step s a i h))
 
-  pub run-stop : i < length a → stop ≡ step s (getD a i 0) → x ≡ out (found i) → x ≡ out r
-  run-stop h f e = e ∙ sym (ap out (v ∙ scan-stop step s a i h (sym f)))
+  pub run-halt : i < length a → halt ≡ step s (getD a i 0) → x ≡ out (found i) → x ≡ out r
+  run-halt h f e = e ∙ sym (ap out (v ∙ scan-halt step s a i h (sym f)))
 
 pub ruleset runs = (choices, run-turn)

@@ -9,14 +9,14 @@ use native.Mathlib.Decide.{decLt}
 use lib.ListN.{length, getD}
 use Rattle.ground.specs.Least.{Least, Nowhere, Gives}
 use Rattle.ground.proofs.First.{gives-at, gives-none}
-use Rattle.parser.specs.Machine.{Next, go, stop, Scan, found, going, scanAt}
-use Rattle.parser.proofs.Machine.{scan-end, scan-more, scan-stop}
+use Rattle.parser.specs.Machine.{Next, go, halt, Scan, found, going, scanAt}
+use Rattle.parser.proofs.Machine.{scan-end, scan-more, scan-halt}
 
 module _ {S : Type 0} (step : S → ℕ → Next S) (a : List ℕ) (P : ℕ → Type 0) (Means : S → ℕ → Type 0) where
   -- what a byte at i has to do: stop where the property holds, and else go on in a state that means what it should
   abbrev pub Meets : ℕ → Next S → Type 0
   Meets i (go t) = (P i → ⊥) × Means t (i + 1)
-  Meets i stop = P i
+  Meets i halt = P i
 
   -- what the scan then tells
   abbrev pub Tells : Scan S → Type 0
@@ -46,7 +46,7 @@ module _ {S : Type 0} (step : S → ℕ → Next S) (a : List ℕ) (P : ℕ → 
               | yes g ↦ none k g q
               | no g ↦ y .0 (subst P (omega arith) q)
             ]))
-        by stop e y r l = subst Tells (sym (scan-stop step s a i l e)) (record { has = y; before = none })
+        by halt e y r l = subst Tells (sym (scan-halt step s a i l e)) (record { has = y; before = none })
 
     pub tells : (s : S) (i : ℕ) → Means s i → ((k : ℕ) → k < i → P k → ⊥) → Tells (scanAt step s a i)
     tells s i = tells-in (length a) s i (omega arith)

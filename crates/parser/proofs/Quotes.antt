@@ -5,11 +5,11 @@ use mathlib.Core.List.{List, [], _∷_, _++_, append-assoc, append-nil}
 use mathlib.Core.Logic.{inl, inr}
 use native.Mathlib.Decide.{ℕ-discrete}
 use Rattle.ground.specs.Bytes.{quot, apos, gt}
-use Rattle.parser.specs.Machine.{Next, go, stop}
-use Rattle.parser.specs.Element.{elementStep, quoteOf, IsQuote, Without, OutsideQuotes, at-first, plain, quoted, WithinQuote, opened, LeavesIn}
+use Rattle.parser.specs.Machine.{Next, go, halt}
+use Rattle.parser.specs.Element.{elementStep, quoteOf, IsQuote, Without, OutsideQuotes, at-first, unquoted, quoted, WithinQuote, after-quote, LeavesIn}
 use Rattle.parser.specs.declared.element.ElementState.{ElementState}
 use Rattle.parser.specs.declared.element.ElementState.the-variants.{Outside, SingleQ, DoubleQ}
-use Rattle.parser.proofs.Turns.{step-stop, step-quote, step-plain, step-close, step-within}
+use Rattle.parser.proofs.Turns.{step-halt, step-quote, step-plain, step-close, step-within}
 
 -- ---- a byte more
 
@@ -19,23 +19,23 @@ without-more q b (x ∷ xs) w n = (w .0, without-more q b xs (w .1) n)
 
 -- the quote opens
 pub opens : (q : ℕ) (bs : List ℕ) → OutsideQuotes bs → WithinQuote q (bs ++ (q ∷ []))
-opens q bs o = opened [] o tt
+opens q bs o = after-quote [] o tt
 
 -- the same quote closes it
 pub closes : (q : ℕ) (bs : List ℕ) → IsQuote q → WithinQuote q bs → OutsideQuotes (bs ++ (q ∷ []))
-closes q bs h (opened {bs = cs} xs o w) = subst OutsideQuotes (sym (append-assoc cs (q ∷ xs) (q ∷ []))) (quoted xs o h w)
+closes q bs h (after-quote {bs = cs} xs o w) = subst OutsideQuotes (sym (append-assoc cs (q ∷ xs) (q ∷ []))) (quoted xs o h w)
 
 -- and no other byte does
 pub stays : (q b : ℕ) (bs : List ℕ) → (b ≡ q → ⊥) → WithinQuote q bs → WithinQuote q (bs ++ (b ∷ []))
-stays q b bs n (opened {bs = cs} xs o w) =
-    subst (WithinQuote q) (sym (append-assoc cs (q ∷ xs) (b ∷ []))) (opened (xs ++ (b ∷ [])) o (without-more q b xs w n))
+stays q b bs n (after-quote {bs = cs} xs o w) =
+    subst (WithinQuote q) (sym (append-assoc cs (q ∷ xs) (b ∷ []))) (after-quote (xs ++ (b ∷ [])) o (without-more q b xs w n))
 
 -- ---- one place only: a fold over the bytes gives it
 
 -- the state after a byte, where `>` changes nothing
 after : ElementState → Next ElementState → ElementState
 after q (go t) = t
-after q stop = q
+after q halt = q
 
 unfoldable run : ElementState → List ℕ → ElementState
 run q [] = q
@@ -55,7 +55,7 @@ run-plain : (b : ℕ) → (IsQuote b → ⊥) → run Outside (b ∷ []) ≡ Out
 unfolding run after
 run-plain b n =
     elim (ℕ-discrete b gt) [
-      | yes e ↦ ap (after Outside) (step-stop b e)
+      | yes e ↦ ap (after Outside) (step-halt b e)
       | no d ↦ ap (after Outside) (step-plain b d n)
     ]
 
@@ -69,14 +69,14 @@ run-quote q xs ys h w =
 outside-run : {bs : List ℕ} → OutsideQuotes bs → run Outside bs ≡ Outside
 unfolding run after
 outside-run at-first = refl
-outside-run (plain {bs = bs} {b = b} o n) = run-append Outside bs (b ∷ []) ∙ ap (λ (t : ElementState). run t (b ∷ [])) (outside-run o) ∙ run-plain b n
+outside-run (unquoted {bs = bs} {b = b} o n) = run-append Outside bs (b ∷ []) ∙ ap (λ (t : ElementState). run t (b ∷ [])) (outside-run o) ∙ run-plain b n
 outside-run (quoted {bs = bs} {q = q} xs o h w) =
     run-append Outside bs (q ∷ (xs ++ (q ∷ []))) ∙ ap (λ (t : ElementState). run t (q ∷ (xs ++ (q ∷ [])))) (outside-run o)
     ∙ run-quote q xs (q ∷ []) h w ∙ ap (after (quoteOf q)) (step-close q q h refl)
 
 within-run : (q : ℕ) {bs : List ℕ} → IsQuote q → WithinQuote q bs → run Outside bs ≡ quoteOf q
 unfolding run
-within-run q h (opened {bs = bs} xs o w) =
+within-run q h (after-quote {bs = bs} xs o w) =
     run-append Outside bs (q ∷ xs) ∙ ap (λ (t : ElementState). run t (q ∷ xs)) (outside-run o)
     ∙ sym (ap (λ (l : List ℕ). run Outside (q ∷ l)) (append-nil xs)) ∙ run-quote q xs [] h w
 

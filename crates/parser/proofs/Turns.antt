@@ -9,7 +9,7 @@ use mathlib.Core.Bool.{Bool, true, false}
 use borrow.Author.Needs.{needs}
 use borrow.Author.Tests.{ne-eqb}
 use Rattle.ground.specs.Bytes.{quot, apos, gt, hyphen}
-use Rattle.parser.specs.Machine.{go, stop, Scan, scanAt}
+use Rattle.parser.specs.Machine.{go, halt, Scan, scanAt}
 use Rattle.parser.specs.Element.{elementStep, elementAnswer, quoteOf, IsQuote}
 use Rattle.parser.specs.declared.element.ElementState.{ElementState}
 use Rattle.parser.specs.declared.element.ElementState.the-variants.{Outside}
@@ -22,12 +22,12 @@ use Rattle.parser.specs.declared.marks.Marks.{Marks}
 use Rattle.parser.specs.declared.marks.Found.{Found}
 use Rattle.parser.specs.declared.marks.Found.the-variants as Marked
 use Rattle.ground.proofs.Choices.{choices}
-use Rattle.parser.proofs.Machine.{scan-end, scan-more, run-turn, run-end, run-stop}
+use Rattle.parser.proofs.Machine.{scan-end, scan-more, run-turn, run-end, run-halt}
 
 -- ---- what each class of byte does to a tag's scan
 
-pub step-stop : (b : ℕ) → b ≡ gt → elementStep Outside b ≡ stop
-step-stop b e = rw e
+pub step-halt : (b : ℕ) → b ≡ gt → elementStep Outside b ≡ halt
+step-halt b e = rw e
 
 pub step-quote : (b : ℕ) → IsQuote b → elementStep Outside b ≡ go (quoteOf b)
 step-quote b q = ⊎-elim (λ e. rw e) (λ e. rw e) q
@@ -56,7 +56,7 @@ module _ (s : List ℕ) (r : Scan ElementState) (i : ℕ) where
     end-outside h = run-end elementAnswer elementStep r Outside s i (Open Outside) v h refl
 
     pub end-found : i < length s → getD s i 0 ≡ gt → At i ≡ elementAnswer r
-    end-found h e = run-stop elementAnswer elementStep r Outside s i (At i) v h (sym (step-stop (getD s i 0) e)) refl
+    end-found h e = run-halt elementAnswer elementStep r Outside s i (At i) v h (sym (step-halt (getD s i 0) e)) refl
 
   module _ (b : ℕ) (v : r ≡ scanAt elementStep (quoteOf b) s i) where
     pub turn-close : i < length s → IsQuote b → getD s i 0 ≡ b → r ≡ scanAt elementStep Outside s (i + 1)
@@ -77,7 +77,7 @@ module _ (test : ℕ → Bool) (s : List ℕ) (r : Scan (Unit {0})) (i : ℕ) (v
   first-turn h e = run-turn (firstStep test) r tt s i v tt h (rw (← e))
 
   pub first-here : i < length s → true ≡ test (getD s i 0) → First.At i ≡ firstAnswer r
-  first-here h e = run-stop firstAnswer (firstStep test) r tt s i (First.At i) v h (rw (← e)) refl
+  first-here h e = run-halt firstAnswer (firstStep test) r tt s i (First.At i) v h (rw (← e)) refl
 
   pub first-done : length s ≤ i → First.End ≡ firstAnswer r
   first-done h = run-end firstAnswer (firstStep test) r tt s i First.End v h refl
@@ -103,7 +103,7 @@ module _ (s : List ℕ) (r : Scan Bool) (before : Bool) (i : ℕ) (v : r ≡ sca
       pair-one f = run-turn pairStep r before s i v true h (rw (e, f))
 
       pub pair-two : before ≡ true → First.At i ≡ pairAnswer r
-      pair-two f = run-stop pairAnswer pairStep r before s i (First.At i) v h (rw (e, f)) refl
+      pair-two f = run-halt pairAnswer pairStep r before s i (First.At i) v h (rw (e, f)) refl
 
 pub ruleset pair-turns = (needs, pair-none, pair-plain, pair-one, pair-two)
 

@@ -16,7 +16,7 @@ use Rattle.ground.specs.Least.{Nowhere, Gives}
 use Rattle.ground.proofs.Choices.{pick-cases, clash}
 use Rattle.ground.proofs.Lists.{part-in, take-next}
 use Rattle.parser.specs.Machine.{Next, go, scanAt}
-use Rattle.parser.specs.Element.{elementStep, elementAnswer, elementFound, IsQuote, OutsideQuotes, at-first, plain, WithinQuote, LeavesIn, TagEnd}
+use Rattle.parser.specs.Element.{elementStep, elementAnswer, elementFound, IsQuote, OutsideQuotes, at-first, unquoted, WithinQuote, LeavesIn, TagEnd}
 use Rattle.parser.specs.Marks.{marksStep, marksAnswer, marksFound, piFound, commentFound, cdataFound, passing}
 use Rattle.parser.specs.Marks.{MarkedEnd, MarksLeft, PiEnd, CommentEnd, CDataEnd}
 use Rattle.parser.specs.First.{firstStep, firstAnswer, firstFound, oneOf, textEnds, textFound, referenceEnds, referenceFound}
@@ -67,7 +67,7 @@ module _ (s : List ℕ) (from : ℕ) where
         (λ y. (no-end, next SingleQ (opened-by apos (eqb-true b apos y))))
         (λ y. pick-cases Here (eqb b quot) _ _
         (λ z. (no-end, next DoubleQ (opened-by quot (eqb-true b quot z))))
-        (λ z. (no-end, next Outside (plain o (⊎-elim (eqb-false b quot z) (eqb-false b apos y)))))))
+        (λ z. (no-end, next Outside (unquoted o (⊎-elim (eqb-false b quot z) (eqb-false b apos y)))))))
       where
         opened-by : (q : ℕ) → b ≡ q → WithinQuote q (passed i ++ (b ∷ []))
         opened-by q e = subst (λ (x : ℕ). WithinQuote q (passed i ++ (x ∷ []))) (sym e) (opens q (passed i) o)

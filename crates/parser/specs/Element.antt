@@ -8,7 +8,7 @@ use lib.Dec.{eqb}
 use Rattle.ground.specs.Choose.{pick}
 use Rattle.ground.specs.Bytes.{quot, apos, gt}
 use Rattle.ground.specs.Part.{part}
-use Rattle.parser.specs.Machine.{Next, go, stop, Scan, found, going, scanAt}
+use Rattle.parser.specs.Machine.{Next, go, halt, Scan, found, going, scanAt}
 use Rattle.parser.specs.declared.element.ElementState.{ElementState}
 use Rattle.parser.specs.declared.element.ElementState.the-variants.{Outside, SingleQ, DoubleQ}
 use Rattle.parser.specs.declared.element.Found.{Found}
@@ -16,7 +16,7 @@ use Rattle.parser.specs.declared.element.Found.the-variants.{At, Open}
 
 -- outside quotes `>` stops the scan and a quote opens; within a quote only the same quote counts, and closes it
 abbrev pub elementStep : ElementState → ℕ → Next ElementState
-elementStep Outside b = pick (eqb b gt) stop (pick (eqb b apos) (go SingleQ) (pick (eqb b quot) (go DoubleQ) (go Outside)))
+elementStep Outside b = pick (eqb b gt) halt (pick (eqb b apos) (go SingleQ) (pick (eqb b quot) (go DoubleQ) (go Outside)))
 elementStep SingleQ b = pick (eqb b apos) (go Outside) (go SingleQ)
 elementStep DoubleQ b = pick (eqb b quot) (go Outside) (go DoubleQ)
 
@@ -53,12 +53,12 @@ Without q (b ∷ bs) = (b ≡ q → ⊥) × Without q bs
 -- bytes that leave one outside quotes: none; or such bytes and a byte that is no quote; or such bytes, a quote, bytes without that quote, and that quote
 pub data OutsideQuotes : List ℕ → Type 0 where
   at-first : OutsideQuotes []
-  plain : {bs : List ℕ} {b : ℕ} → OutsideQuotes bs → (IsQuote b → ⊥) → OutsideQuotes (bs ++ (b ∷ []))
+  unquoted : {bs : List ℕ} {b : ℕ} → OutsideQuotes bs → (IsQuote b → ⊥) → OutsideQuotes (bs ++ (b ∷ []))
   quoted : {bs : List ℕ} {q : ℕ} (xs : List ℕ) → OutsideQuotes bs → IsQuote q → Without q xs → OutsideQuotes (bs ++ (q ∷ (xs ++ (q ∷ []))))
 
 -- bytes that leave one within a quote q: bytes that leave one outside, q, and bytes without q
 pub data WithinQuote (q : ℕ) : List ℕ → Type 0 where
-  opened : {bs : List ℕ} (xs : List ℕ) → OutsideQuotes bs → Without q xs → WithinQuote q (bs ++ (q ∷ xs))
+  after-quote : {bs : List ℕ} (xs : List ℕ) → OutsideQuotes bs → Without q xs → WithinQuote q (bs ++ (q ∷ xs))
 
 -- where bytes leave one, for each state
 abbrev pub LeavesIn : ElementState → List ℕ → Type 0

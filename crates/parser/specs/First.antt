@@ -8,13 +8,13 @@ use lib.ListN.{length, getD}
 use lib.Dec.{eqb}
 use Rattle.ground.specs.Choose.{pick}
 use Rattle.ground.specs.Bytes.{amp, lt, semicolon}
-use Rattle.parser.specs.Machine.{Next, go, stop, Scan, found, going, scanAt}
+use Rattle.parser.specs.Machine.{Next, go, halt, Scan, found, going, scanAt}
 use Rattle.parser.specs.declared.first.Found.{Found}
 use Rattle.parser.specs.declared.first.Found.the-variants.{At, End}
 
 -- a byte that passes the test stops the scan
 abbrev pub firstStep : (ℕ → Bool) → Unit {0} → ℕ → Next (Unit {0})
-firstStep test u b = pick (test b) stop (go tt)
+firstStep test u b = pick (test b) halt (go tt)
 
 -- the scan as the answer that it gives
 abbrev pub firstAnswer : Scan (Unit {0}) → Found

@@ -7,13 +7,13 @@ use lib.ListN.{length, getD}
 use lib.Dec.{eqb}
 use Rattle.ground.specs.Choose.{pick}
 use Rattle.ground.specs.Bytes.{hyphen}
-use Rattle.parser.specs.Machine.{Next, go, stop, Scan, found, going, scanAt}
+use Rattle.parser.specs.Machine.{Next, go, halt, Scan, found, going, scanAt}
 use Rattle.parser.specs.declared.first.Found.{Found}
 use Rattle.parser.specs.declared.first.Found.the-variants.{At, End}
 
 -- the state says whether the byte just before is a hyphen; a hyphen after one stops the scan
 abbrev pub pairStep : Bool → ℕ → Next Bool
-pairStep before b = pick (eqb b hyphen) (pick before stop (go true)) (go false)
+pairStep before b = pick (eqb b hyphen) (pick before halt (go true)) (go false)
 
 -- the scan as the answer that it gives
 abbrev pub pairAnswer : Scan Bool → Found

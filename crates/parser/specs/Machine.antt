@@ -7,7 +7,7 @@ use lib.ListN.{drop}
 -- what a byte does to a state
 pub data Next (S : Type 0) : Type 0 where
   go : S → Next S
-  stop : Next S
+  halt : Next S
 
 -- where a scan stands: it stopped at a position, or goes on in a state
 pub data Scan (S : Type 0) : Type 0 where
@@ -18,7 +18,7 @@ module _ {S : Type 0} where
   -- where a scan stands after a byte at i
   abbrev pub stand : ℕ → Next S → Scan S
   stand i (go s) = going s
-  stand i stop = found i
+  stand i halt = found i
 
 module _ {S : Type 0} (step : S → ℕ → Next S) where
   -- one byte, which stands at i

@@ -7,7 +7,7 @@ use lib.ListN.{length, getD}
 use lib.Dec.{eqb, leb, ltb}
 use Rattle.ground.specs.Choose.{pick}
 use Rattle.ground.specs.Bytes.{gt, hyphen, question, closeBracket}
-use Rattle.parser.specs.Machine.{Next, go, stop, Scan, found, going, scanAt}
+use Rattle.parser.specs.Machine.{Next, go, halt, Scan, found, going, scanAt}
 use Rattle.parser.specs.declared.marks.Marks.{Marks}
 use Rattle.parser.specs.declared.marks.Found.{Found}
 use Rattle.parser.specs.declared.marks.Found.the-variants.{At, Open}
@@ -24,7 +24,7 @@ passing n = record { left = n; seen = 0 }
 abbrev pub marksStep : ℕ → ℕ → Marks → ℕ → Next Marks
 marksStep mark need m b =
     pick (eqb (m .left) 0)
-    (pick (eqb b gt) (pick (leb need (m .seen)) stop (go (seeing 0)))
+    (pick (eqb b gt) (pick (leb need (m .seen)) halt (go (seeing 0)))
     (pick (eqb b mark) (pick (ltb (m .seen) need) (go (seeing (m .seen + 1))) (go (seeing (m .seen)))) (go (seeing 0))))
     (go (passing (m .left - 1)))
 

@@ -29,7 +29,7 @@ use Rattle.state.specs.declared.answer.Answer.{Answer}
 use Rattle.state.specs.declared.run.Phase.{Phase}
 use Rattle.state.specs.declared.run.Reader.{Reader}
 use Rattle.state.specs.declared.run.Step.{Step}
-use Rattle.state.specs.Place.{at, span, size, names, inner}
+use Rattle.state.specs.Place.{at, span, size, depthOf, inner}
 use Rattle.state.specs.Limits.{capacity}
 use Rattle.state.specs.Values.{kindNumber, valuesOf}
 use Rattle.state.specs.Make.{event, moved, withDepth, told, ended, refused, stopped}
@@ -40,7 +40,7 @@ use Rattle.emit.specs.Reference.{emitRef, emitDangling}
 use Rattle.emit.specs.Bang.{commentOpener, cdataOpener, bangEvent, checkedComment, emitComment, emitCData}
 use Rattle.emit.specs.Question.{isDecl, questionEvent, emitQuestionMark}
 use Rattle.emit.specs.End.{endEvent, unmatched, differs, matched, emitEnd, closeExpandedEmpty}
-use Rattle.emit.specs.Start.{slashed, tag, opened, emitStart}
+use Rattle.emit.specs.Start.{slashed, tag, opening, emitStart}
 use Rattle.reader.specs.declared.piece.Shape.{Shape}
 use Rattle.reader.specs.declared.piece.Piece.{Piece}
 use Rattle.reader.specs.declared.piece.Cut.{Cut}
@@ -83,7 +83,7 @@ pub data Named (doc : List ℕ) (cap : ℕ) (last : Span) (r : Reader) (s : Step
       → (r .settings .«check_end_names» ≡ true → bytes doc (valuesOf (s .answer) .content) ≡ bytes doc last) → Named doc cap last r s
   mismatches : valuesOf (s .answer) .number ≡ 10 → 0 < r .depth .0 → s .reader .depth .0 ≡ r .depth .0 - 1 → r .settings .«check_end_names» ≡ true
       → valuesOf (s .answer) .expected ≡ last → (bytes doc (valuesOf (s .answer) .found) ≡ bytes doc last → ⊥) → Named doc cap last r s
-  strays : valuesOf (s .answer) .kind ≡ kindNumber Kind.End → r .depth .0 ≡ 0 → s .reader .depth .0 ≡ 0 → r .settings .«allow_unmatched_ends» ≡ true → Named doc cap last r s
+  closes-nothing : valuesOf (s .answer) .kind ≡ kindNumber Kind.End → r .depth .0 ≡ 0 → s .reader .depth .0 ≡ 0 → r .settings .«allow_unmatched_ends» ≡ true → Named doc cap last r s
   unmatches : valuesOf (s .answer) .number ≡ 11 → r .depth .0 ≡ 0 → s .reader .depth .0 ≡ 0 → r .settings .«allow_unmatched_ends» ≡ false → Named doc cap last r s
 
 pub record Turned (doc : List ℕ) (cap : ℕ) (last : Span) (r : Reader) (s : Step) : Type 0 where
@@ -306,7 +306,7 @@ module _ (doc : List ℕ) (cap : ℕ) (last : Span) (r : Reader) (piece : Span) 
     module _ (name : Span) where
       stray-turn : r .depth .0 ≡ 0 → r .settings .«allow_unmatched_ends» ≡ true → Turn (endEvent r piece name)
       unfolding endEvent told moved
-      stray-turn z on = told-turn r Kind.End name _ Phase.InsideText (like-itself r) (to-text some r) (λ e. absurd (omega arith)) (strays refl z z on)
+      stray-turn z on = told-turn r Kind.End name _ Phase.InsideText (like-itself r) (to-text some r) (λ e. absurd (omega arith)) (closes-nothing refl z z on)
 
       unmatched-turn : r .depth .0 ≡ 0 → Turn (unmatched r piece name)
       unfolding unmatched refused moved
@@ -356,14 +356,14 @@ module _ (doc : List ℕ) (cap : ℕ) (last : Span) (r : Reader) (piece : Span) 
         added-turn b l d room =
             told-turn b Kind.Start content _ next l (n b d) (λ e. absurd (omega arith)) (opens refl room d (record { ordered = o; within = w; named = refl; expands = x }))
 
-        opened-turn : Turn (opened r (names cap) (tag doc Kind.Start piece content) next)
-        unfolding opened tag withDepth
+        opened-turn : Turn (opening r (depthOf cap) (tag doc Kind.Start piece content) next)
+        unfolding opening tag withDepth
         opened-turn =
             pick-cases Turn (ltb (r .depth .0) cap) _ _
             (λ e. added-turn _ (record { size = refl; settings = refl }) refl (ltb-true _ _ e))
             (λ _. full)
 
-      start-turn : Turn (emitStart doc r (names cap) piece)
+      start-turn : Turn (emitStart doc r (depthOf cap) piece)
       unfolding emitStart tag
       start-turn =
           pick-cases Turn (slashed doc piece) _ _
@@ -414,7 +414,7 @@ module _ (doc : List ℕ) (cap : ℕ) (last : Span) (r : Reader) where
     some m = record { has = omega arith; near = near }
 
     emitted-turn : (shape : Shape) (next : Phase) → piece .from + fewest shape ≤ piece .to → Lands doc (piece .to) next
-        → Turns (emittedAs doc r last (names cap) shape piece next)
+        → Turns (emittedAs doc r last (depthOf cap) shape piece next)
     emitted-turn Shape.Text next m l = text-turn doc cap last r piece f (some m) next l
     emitted-turn Shape.LastText next m l = last-turn doc cap last r piece f
     emitted-turn Shape.GeneralRef next m l = ref-turn doc cap last r piece f (some m)
@@ -425,7 +425,7 @@ module _ (doc : List ℕ) (cap : ℕ) (last : Span) (r : Reader) where
     emitted-turn Shape.End next m l = close-turn doc cap last r piece f (some m)
     emitted-turn Shape.Start next m l = start-turn doc cap last r piece f (some m) (full-turn piece f)
 
-  piece-turn : (from : ℕ) (p : Piece) → From doc r from → CutOff doc from p → Turns (checked doc r last (names cap) p)
+  piece-turn : (from : ℕ) (p : Piece) → From doc r from → CutOff doc from p → Turns (checked doc r last (depthOf cap) p)
   unfolding checked emitted
   piece-turn from p f c =
       let fits : Fits doc r (p .span) = lies-fits doc r from _ f (c .lies) in
@@ -433,7 +433,7 @@ module _ (doc : List ℕ) (cap : ℕ) (last : Span) (r : Reader) where
       (emitted-turn (p .span) fits (rw (c .lies .starts) (f .near)) (p .shape) (p .next) (rw (c .lies .starts) (c .moves)) (c .lands))
       (λ _. stopped-quiet doc cap last r (p .span) fits Error.Encoding _ (omega arith))
 
-  taken-turn : (from : ℕ) (c : Cut) → From doc r from → CutAt doc from c → Turns (taken doc r last (names cap) c)
+  taken-turn : (from : ℕ) (c : Cut) → From doc r from → CutAt doc from c → Turns (taken doc r last (depthOf cap) c)
   unfolding taken
   taken-turn from (Cut.Piece p) f c = piece-turn from p f c
   taken-turn from (Cut.Stop x) f c = stopped-quiet doc cap last r (x .piece) (lies-fits doc r from _ f (c .lies)) (x .error) _ (c .plain)
@@ -452,7 +452,7 @@ module _ (doc : List ℕ) (cap : ℕ) (last : Span) (r : Reader) where
       })
       (λ _. f)
 
-  text-from : (from : ℕ) → From doc r from → Turns (stepText doc r last (names cap) from)
+  text-from : (from : ℕ) → From doc r from → Turns (stepText doc r last (depthOf cap) from)
   unfolding stepText
   text-from from f = let g = skip-from from f in taken-turn _ _ g (next-cut doc _ (g .within))
 
@@ -480,7 +480,7 @@ module _ (doc : List ℕ) (cap : ℕ) (last : Span) (r : Reader) where
       unfolding closeExpandedEmpty withDepth
       expanded-turn = expanded-end _ (record { size = refl; settings = refl }) refl
 
-    phase-turn : (p : Phase) → r .phase ≡ p → Turns (stepIn doc r last (names cap) p)
+    phase-turn : (p : Phase) → r .phase ≡ p → Turns (stepIn doc r last (depthOf cap) p)
     phase-turn Phase.Init e = text-from (begin doc) (from-start e)
     phase-turn Phase.InsideText e = text-from (r .position .0) (stands Phase.InsideText e (omega arith))
     phase-turn Phase.InsideMarkup e = taken-turn _ _ (stands Phase.InsideMarkup e (omega arith)) (markup-cut doc (r .position .0) in-doc)
@@ -503,7 +503,7 @@ call-numbers doc cap last r s (keeps q d) = (q .2 .2, q .2 .3)
 call-numbers doc cap last r s (opens k room d tag) = let z = no-number (s .answer) (omega arith) in (λ e. omega arith, λ e. omega arith)
 call-numbers doc cap last r s (closes k z d same) = let z = no-number (s .answer) (omega arith) in (λ e. omega arith, λ e. omega arith)
 call-numbers doc cap last r s (mismatches n z d on x y) = (λ e. omega arith, λ e. omega arith)
-call-numbers doc cap last r s (strays k z d on) = let z = no-number (s .answer) (omega arith) in (λ e. omega arith, λ e. omega arith)
+call-numbers doc cap last r s (closes-nothing k z d on) = let z = no-number (s .answer) (omega arith) in (λ e. omega arith, λ e. omega arith)
 call-numbers doc cap last r s (unmatches n z d off) = (λ e. omega arith, λ e. omega arith)
 
 -- the name of a Start is the first bytes of its content, and ends where the reader stands then, or before

@@ -16,7 +16,7 @@ use Rattle.state.specs.declared.place.Span.{Span}
 use Rattle.state.specs.declared.run.Phase.{Phase}
 use Rattle.state.specs.declared.run.Reader.{Reader}
 use Rattle.state.specs.Limits.{longest, capacity}
-use Rattle.state.specs.Place.{names}
+use Rattle.state.specs.Place.{depthOf}
 use Rattle.state.proofs.Room.{told-slots}
 use Rattle.reader.specs.Names.{latest}
 use Rattle.reader.specs.Sound.{inPlace, sound}
@@ -39,7 +39,7 @@ module _ (doc stack : List ℕ) (r : Reader) where
       past-the-end h =
           rw (eq-eqb (r .length) (length doc) size, le-leb (length doc) longest short, lt-leb (r .position .0) (length doc) h)
 
-      module _ (in-doc : r .position .0 ≤ length doc) (k : Depth) (asked : k ≡ names (capacity (length stack))) where
+      module _ (in-doc : r .position .0 ≤ length doc) (k : Depth) (asked : k ≡ depthOf (capacity (length stack))) where
         abbrev room : capacity (length stack) ≡ k .0
         room = sym (ap (λ (x : Depth). x .0) asked)
 

@@ -9,7 +9,8 @@ use Rattle.state.specs.declared.answer.Values.{Values}
 use Rattle.state.specs.Limits.{slots}
 use Rattle.state.specs.Place.{span}
 use Rattle.state.specs.Values.{kindNumber, valuesOf}
-use Rattle.reader.specs.Names.{pushed, nameOf, written, Room}
+use Rattle.reader.specs.Asked.{Room}
+use Rattle.reader.specs.Names.{pushed, nameOf, written}
 
 -- v is the answer as numbers, and k the number of Start
 module _ (a : Answer) (v : Values) (k : ℕ) (e : v ≡ valuesOf a) (start : k ≡ kindNumber Kind.Start) where

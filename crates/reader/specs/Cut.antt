@@ -1,6 +1,5 @@
 -- How the next piece is cut off the document (document 01, "Steps"): what it is and where it ends, or a refusal: no closer, 8 or 14.
-use Prim.Native.Nat.{ℕ, _+_, _<_}
-use mathlib.Core.Path.{_≡_}
+use Prim.Native.Nat.{ℕ, _+_}
 use mathlib.Core.List.{List}
 use lib.ListN.{length, getD}
 use lib.Dec.{eqb, leb}
@@ -66,10 +65,6 @@ cutTag doc from shape =
     byTag (elementFound doc from)
     (λ end. whole shape from (end + 1) Phase.InsideText)
     (stop (unclosedTag (elementFound doc from)) from (length doc))
-
--- (what the routine for comments and CDATA asks of its caller: an end that was found stands in the document)
-abbrev pub EndsWithin : List ℕ → MarksFound → Type 0
-EndsWithin doc found = (end : ℕ) → found ≡ MarksFound.At end → end < length doc
 
 -- a comment or CDATA whose end was looked for; unclosed, position "length"
 unfoldable pub cutMarked : List ℕ → ℕ → MarksFound → Shape → Error → Cut

@@ -1,3 +1,4 @@
+pub mod Asked
 pub mod Cut
 pub mod Names
 pub mod Sound

@@ -1,6 +1,5 @@
 -- The lent stack of open names (document 01, "Steps" and "When a call is refused").
-use Prim.Native.Nat.{ℕ, _+_, _-_, _*_, _<_, _^_}
-use mathlib.Core.Path.{_≡_}
+use Prim.Native.Nat.{ℕ, _+_, _-_, _*_}
 use mathlib.Core.List.{List}
 use lib.ListN.{getD, set}
 use lib.Dec.{eqb}
@@ -36,7 +35,3 @@ bytes doc s = part doc (s .from) (s .to)
 -- "Closing writes no stack slot; opening writes the one pair at the old depth; refusals write none": a Start writes its name, nothing else writes
 unfoldable pub written : List ℕ → ℕ → Answer → List ℕ
 written stack d a = pick (eqb (valuesOf a .kind) (kindNumber Kind.Start)) (pushed stack d (nameOf a)) stack
-
--- (what the routine that writes asks of its caller: n slots have room for the name, and its end is a number of 64 bits)
-pub record Room (n d : ℕ) (a : Answer) : Type 0 where
-  pub room : valuesOf a .kind ≡ kindNumber Kind.Start → (d * slots + 1 < n) × (nameOf a .to < 2 ^ 64)

@@ -18,7 +18,7 @@ use Rattle.state.specs.declared.run.Reader.{Reader}
 use Rattle.state.specs.declared.run.Phase.{Phase}
 use Rattle.state.specs.declared.run.Step.{Step}
 use Rattle.state.specs.Limits.{capacity}
-use Rattle.state.specs.Place.{at, names, span}
+use Rattle.state.specs.Place.{at, depthOf, span}
 use Rattle.state.specs.Make.{ended, stopped, badState}
 use Rattle.emit.specs.Text.{emitText, emitLastText}
 use Rattle.emit.specs.Reference.{emitRef, emitDangling}
@@ -99,7 +99,7 @@ module _ (doc : List ℕ) (r : Reader) (last : Span) (cap : Depth) where
 unfoldable pub step : List ℕ → List ℕ → Reader → Step
 step doc stack r =
     pick (sound doc stack r)
-    (stepPhase doc r (latest stack (r .depth .0)) (names (capacity (length stack))))
+    (stepPhase doc r (latest stack (r .depth .0)) (depthOf (capacity (length stack))))
     (badState r)
 
 -- THE PROMISE of a call: the answer and the reader, and every slot of the stack

@@ -20,7 +20,8 @@ use state::run::Phase;
 ghost use mathlib.Core.Path.{_≡_};
 ghost use Prim.Native.Nat.{_<_};
 ghost use lib.ListN.{length};
-ghost use Rattle.reader.specs.Cut.{EndsWithin, whole as wholeOf, stop as stopOf, phaseAt, cutText, cutRef, unclosedTag, cutTag, cutMarked, cutBang, cutQuestion, cutMarkup, cutNext};
+ghost use Rattle.reader.specs.Asked.{EndsWithin};
+ghost use Rattle.reader.specs.Cut.{whole as wholeOf, stop as stopOf, phaseAt, cutText, cutRef, unclosedTag, cutTag, cutMarked, cutBang, cutQuestion, cutMarkup, cutNext};
 
 // A piece from `from` to `to`.
 fn whole(shape: Shape, from: usize, to: usize, next: Phase) -> Cut

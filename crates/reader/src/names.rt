@@ -8,7 +8,8 @@ ghost use mathlib.Core.Path.{_≡_};
 ghost use Prim.Native.Nat.{_+_, _*_, _≤_, _<_};
 ghost use lib.ListN.{length};
 ghost use Rattle.state.specs.Limits.{slots};
-ghost use Rattle.reader.specs.Names.{latest as latestOf, pushed, written, Room};
+ghost use Rattle.reader.specs.Names.{latest as latestOf, pushed, written};
+ghost use Rattle.reader.specs.Asked.{Room};
 
 // The latest open name; 0..0 where none is open.
 pub fn latest(stack: &[usize], depth: Depth) -> Span

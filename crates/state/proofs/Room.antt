@@ -6,7 +6,7 @@ use lib.Dec.{ltb}
 use borrow.Author.Tests.{ltb-true, ltb-false}
 use Rattle.ground.proofs.Choices.{pick-cases}
 use Rattle.state.specs.declared.place.Depth.{Depth}
-use Rattle.state.specs.Place.{names}
+use Rattle.state.specs.Place.{depthOf}
 use Rattle.state.specs.Limits.{most, slots, capacity}
 
 -- half the slots at most, and the most names at most
@@ -22,5 +22,5 @@ pub capacity-slots : (n d : ℕ) → d ≤ capacity n → d * slots ≤ n
 capacity-slots n d h = omega (arith, capacity-half n)
 
 -- where the code has asked for the capacity
-pub told-slots : (n : ℕ) (k d : Depth) → k ≡ names (capacity n) → d .0 ≤ k .0 → d .0 * slots ≤ n
+pub told-slots : (n : ℕ) (k d : Depth) → k ≡ depthOf (capacity n) → d .0 ≤ k .0 → d .0 * slots ≤ n
 told-slots n k d e h = capacity-slots n (d .0) (omega (arith, ap (λ (x : Depth). x .0) e))

@@ -8,7 +8,7 @@ use borrow.Author.Tests.{le-leb, lt-leb, leb-true}
 use Rattle.ground.proofs.Choices.{pick-cases}
 use Rattle.state.specs.declared.place.Depth.{Depth}
 use Rattle.state.specs.declared.place.Span.{Span}
-use Rattle.state.specs.Place.{span, names, fewer, inner}
+use Rattle.state.specs.Place.{span, depthOf, fewer, inner}
 
 module _ (s : Span) (front back : ℕ) where
   inner-none : s .to < s .from + front + back → span (s .from) (s .from) ≡ inner s front back
@@ -44,5 +44,5 @@ module _ (s : Span) (front back : ℕ) where
 pub ruleset inners = (needs, crossed, short, shorter, fits)
 
 -- where no name is open there is none to take away
-pub fewer-none : (d : Depth) → d .0 ≡ 0 → names 0 ≡ fewer d
-fewer-none d h = ap names (omega arith)
+pub fewer-none : (d : Depth) → d .0 ≡ 0 → depthOf 0 ≡ fewer d
+fewer-none d h = ap depthOf (omega arith)

@@ -16,7 +16,7 @@ use Rattle.state.specs.declared.run.Reader.{Reader}
 use Rattle.state.specs.declared.run.Step.{Step}
 use Rattle.state.specs.declared.run.Made.{Made}
 use Rattle.state.specs.Limits.{longest}
-use Rattle.state.specs.Place.{at, names, span}
+use Rattle.state.specs.Place.{at, depthOf, span}
 
 abbrev pub event : Kind → Span → Span → ℕ → Event
 event kind piece content name = record { kind = kind; piece = piece; content = content; name = name }
@@ -26,7 +26,7 @@ refusal error place piece = record { error = error; place = place; piece = piece
 
 -- "A fresh reader has Init, 0, 0, the slice's length and the settings given"
 unfoldable pub fresh : ℕ → Config → Reader
-fresh n c = record { phase = Phase.Init; position = at 0; depth = names 0; length = n; settings = c }
+fresh n c = record { phase = Phase.Init; position = at 0; depth = depthOf 0; length = n; settings = c }
 
 -- 16: "slice too long, on making a reader", "no reader made, place 0", "the piece of 16 and 17 is 0..0"
 unfoldable pub made : ℕ → Config → Made
@@ -56,6 +56,10 @@ refused r e place piece next = record { reader = moved r next (piece .to); answe
 unfoldable pub stopped : Reader → Error → Position → Span → Step
 stopped r e place piece = refused r e place piece Phase.Done
 
--- 17: "all unchanged, place 0"
+-- 17: "place 0", "the piece of 16 and 17 is 0..0"
+abbrev pub badAnswer : Answer
+badAnswer = Answer.Refused (refusal Error.BadState (at 0) (span 0 0))
+
+-- 17: "all unchanged"
 unfoldable pub badState : Reader → Step
-badState r = record { reader = r; answer = Answer.Refused (refusal Error.BadState (at 0) (span 0 0)) }
+badState r = record { reader = r; answer = badAnswer }

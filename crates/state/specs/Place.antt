@@ -9,8 +9,8 @@ use Rattle.state.specs.declared.place.Span.{Span}
 abbrev pub at : ℕ → Position
 at n = record { 0 = n }
 
-abbrev pub names : ℕ → Depth
-names n = record { 0 = n }
+abbrev pub depthOf : ℕ → Depth
+depthOf n = record { 0 = n }
 
 -- from a up to b
 abbrev pub span : ℕ → ℕ → Span
@@ -22,11 +22,11 @@ size s = s .to - s .from
 
 -- one name fewer, where there is one
 abbrev pub fewer : Depth → Depth
-fewer d = names (d .0 - 1)
+fewer d = depthOf (d .0 - 1)
 
 -- one name more
 abbrev pub further : Depth → Depth
-further d = names (d .0 + 1)
+further d = depthOf (d .0 + 1)
 
 -- what lies between the first `front` bytes of a span and its last `back` ones; the empty span at its start where it has fewer bytes than that
 unfoldable pub inner : Span → ℕ → ℕ → Span

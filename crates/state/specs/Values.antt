@@ -23,28 +23,28 @@ kindNumber Kind.PI = 9
 kindNumber Kind.Eof = 10
 
 -- a refusal without spans of its own
-abbrev pub plain : ℕ → Numbered
-plain n = record { number = n; expected = span 0 0; found = span 0 0 }
+abbrev pub spanless : ℕ → Numbered
+spanless n = record { number = n; expected = span 0 0; found = span 0 0 }
 
 -- the refusals (document 01, "When a call is refused"): "MismatchedEndTag (with expected and found spans), UnmatchedEndTag (with found span)"
 abbrev pub numberedOf : Error → Numbered
-numberedOf Error.UnclosedTag = plain 1
-numberedOf Error.UnclosedSingleQuotedAttributeValue = plain 2
-numberedOf Error.UnclosedDoubleQuotedAttributeValue = plain 3
-numberedOf Error.UnclosedComment = plain 4
-numberedOf Error.UnclosedCData = plain 5
-numberedOf Error.UnclosedPI = plain 6
-numberedOf Error.UnclosedXmlDecl = plain 7
-numberedOf Error.InvalidBangMarkup = plain 8
-numberedOf Error.DoubleHyphenInComment = plain 9
+numberedOf Error.UnclosedTag = spanless 1
+numberedOf Error.UnclosedSingleQuotedAttributeValue = spanless 2
+numberedOf Error.UnclosedDoubleQuotedAttributeValue = spanless 3
+numberedOf Error.UnclosedComment = spanless 4
+numberedOf Error.UnclosedCData = spanless 5
+numberedOf Error.UnclosedPI = spanless 6
+numberedOf Error.UnclosedXmlDecl = spanless 7
+numberedOf Error.InvalidBangMarkup = spanless 8
+numberedOf Error.DoubleHyphenInComment = spanless 9
 numberedOf (Error.MismatchedEndTag expected found) = record { number = 10; expected = expected; found = found }
 numberedOf (Error.UnmatchedEndTag found) = record { number = 11; expected = span 0 0; found = found }
-numberedOf Error.UnclosedReference = plain 12
-numberedOf Error.Encoding = plain 13
-numberedOf Error.DocType = plain 14
-numberedOf Error.NameStackFull = plain 15
-numberedOf Error.SliceTooLong = plain 16
-numberedOf Error.BadState = plain 17
+numberedOf Error.UnclosedReference = spanless 12
+numberedOf Error.Encoding = spanless 13
+numberedOf Error.DocType = spanless 14
+numberedOf Error.NameStackFull = spanless 15
+numberedOf Error.SliceTooLong = spanless 16
+numberedOf Error.BadState = spanless 17
 
 -- "Each answer has a kind, the piece (start, end), the content (start, end) and a name length"; the rest is 0
 abbrev pub eventValues : Event → Values

@@ -2,7 +2,7 @@
 use crate::place::Position;
 use crate::place::Span;
 ghost use mathlib.Core.Path.{_≡_};
-ghost use Rattle.state.specs.Values.{kindNumber, plain as plainOf, numberedOf, eventValues, refusalValues, valuesOf};
+ghost use Rattle.state.specs.Values.{kindNumber, spanless as plainOf, numberedOf, eventValues, refusalValues, valuesOf};
 
 pub enum Kind {
     Start,
@@ -97,7 +97,7 @@ impl Kind {
 }
 
 // A refusal's number, with no spans.
-fn plain(number: usize) -> Numbered
+fn spanless(number: usize) -> Numbered
     ensures { λ r. ⌜ r ≡ plainOf number ⌝ }
 {
     let none = Span { from: 0, to: 0 };
@@ -114,15 +114,15 @@ impl Error {
         ensures { λ r. ⌜ r ≡ numberedOf self ⌝ }
     {
         match self {
-            Error::UnclosedTag => plain(1),
-            Error::UnclosedSingleQuotedAttributeValue => plain(2),
-            Error::UnclosedDoubleQuotedAttributeValue => plain(3),
-            Error::UnclosedComment => plain(4),
-            Error::UnclosedCData => plain(5),
-            Error::UnclosedPI => plain(6),
-            Error::UnclosedXmlDecl => plain(7),
-            Error::InvalidBangMarkup => plain(8),
-            Error::DoubleHyphenInComment => plain(9),
+            Error::UnclosedTag => spanless(1),
+            Error::UnclosedSingleQuotedAttributeValue => spanless(2),
+            Error::UnclosedDoubleQuotedAttributeValue => spanless(3),
+            Error::UnclosedComment => spanless(4),
+            Error::UnclosedCData => spanless(5),
+            Error::UnclosedPI => spanless(6),
+            Error::UnclosedXmlDecl => spanless(7),
+            Error::InvalidBangMarkup => spanless(8),
+            Error::DoubleHyphenInComment => spanless(9),
             Error::MismatchedEndTag { expected, found } => Numbered {
                 number: 10,
                 expected,
@@ -133,12 +133,12 @@ impl Error {
                 expected: Span { from: 0, to: 0 },
                 found,
             },
-            Error::UnclosedReference => plain(12),
-            Error::Encoding => plain(13),
-            Error::DocType => plain(14),
-            Error::NameStackFull => plain(15),
-            Error::SliceTooLong => plain(16),
-            Error::BadState => plain(17),
+            Error::UnclosedReference => spanless(12),
+            Error::Encoding => spanless(13),
+            Error::DocType => spanless(14),
+            Error::NameStackFull => spanless(15),
+            Error::SliceTooLong => spanless(16),
+            Error::BadState => spanless(17),
         }
     }
 }

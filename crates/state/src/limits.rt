@@ -2,7 +2,7 @@
 use crate::place::Depth;
 ghost use mathlib.Core.Path.{_≡_};
 ghost use Rattle.state.specs.Limits.{capacity as capacityOf};
-ghost use Rattle.state.specs.Place.{names};
+ghost use Rattle.state.specs.Place.{depthOf};
 
 // The longest document, in bytes.
 pub const LONGEST: usize = 16777216;
@@ -15,7 +15,7 @@ pub const SLOTS: usize = 2;
 
 // How many names a stack of so many slots holds.
 pub fn capacity(slots: usize) -> Depth
-    ensures { λ r. ⌜ r ≡ names (capacityOf slots) ⌝ }
+    ensures { λ r. ⌜ r ≡ depthOf (capacityOf slots) ⌝ }
 {
     let names = slots / SLOTS;
     if names < MOST {

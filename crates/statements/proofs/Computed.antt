@@ -8,7 +8,7 @@ use Rattle.demands.specs.Open.{leftOpen}
 use Rattle.demands.specs.Openings.{openings}
 use Rattle.ground.specs.Equal.{begins, same}
 use Rattle.white.specs.White.{until, keptOf}
-use Rattle.utf8.specs.Utf8.{begins as beginsChar, taken as takenBy, checkFrom}
+use Rattle.utf8.specs.Utf8.{inRanges, rowLen, checkFrom}
 use Rattle.parser.specs.Machine.{feed}
 use Rattle.state.specs.Limits.{capacity}
 use Rattle.state.specs.Place.{inner}
@@ -18,7 +18,7 @@ use Rattle.emit.specs.Reference.{emitRef, emitDangling}
 use Rattle.emit.specs.Bang.{bangEvent, emitComment, emitCData}
 use Rattle.emit.specs.Question.{isDecl, questionEvent, emitQuestionMark}
 use Rattle.emit.specs.End.{closingName, endEvent, unmatched, differs, matched, emitEnd, closeExpandedEmpty}
-use Rattle.emit.specs.Start.{slashed, tag, opened as openedTag, emitStart}
+use Rattle.emit.specs.Start.{slashed, tag, opening, emitStart}
 use Rattle.reader.specs.Cut.{whole, stop, phaseAt, cutText, cutRef, unclosedTag, cutTag, cutMarked, cutBang, cutQuestion, cutMarkup, cutNext}
 use Rattle.reader.specs.Names.{latest, pushed, written}
 use Rattle.reader.specs.Sound.{inPlace, sound}
@@ -29,10 +29,10 @@ use Rattle.statements.specs.Sides.{left, right, sidesFrom, sides, ends, 
 
 -- THEOREM
 pub clauses-hold : map (sides left) openings ≡ map (sides right) openings
-unfolding sides sidesFrom leftOpen count badState openings entries closeExpandedEmpty run call step stepPhase stepText begin skipped taken checked emitted sound inPlace latest pushed written cutNext cutMarkup cutQuestion cutBang cutMarked cutTag unclosedTag cutRef cutText phaseAt whole stop emitStart openedTag tag slashed emitEnd matched differs unmatched endEvent closingName emitQuestionMark questionEvent isDecl emitCData emitComment bangEvent emitDangling emitRef emitLastText emitText textContent stopped refused ended told withDepth moved fresh inner capacity feed checkFrom takenBy beginsChar keptOf until begins same
+unfolding sides sidesFrom leftOpen count badState openings entries closeExpandedEmpty run call step stepPhase stepText begin skipped taken checked emitted sound inPlace latest pushed written cutNext cutMarkup cutQuestion cutBang cutMarked cutTag unclosedTag cutRef cutText phaseAt whole stop emitStart opening tag slashed emitEnd matched differs unmatched endEvent closingName emitQuestionMark questionEvent isDecl emitCData emitComment bangEvent emitDangling emitRef emitLastText emitText textContent stopped refused ended told withDepth moved fresh inner capacity feed checkFrom rowLen inRanges keptOf until begins same
 clauses-hold = refl
 
 -- THEOREM
 pub end-comes : map ends openings ≡ map wanted openings
-unfolding ends wanted badState openings entries closeExpandedEmpty run call step stepPhase stepText begin skipped taken checked emitted sound inPlace latest pushed written cutNext cutMarkup cutQuestion cutBang cutMarked cutTag unclosedTag cutRef cutText phaseAt whole stop emitStart openedTag tag slashed emitEnd matched differs unmatched endEvent closingName emitQuestionMark questionEvent isDecl emitCData emitComment bangEvent emitDangling emitRef emitLastText emitText textContent stopped refused ended told withDepth moved fresh inner capacity feed checkFrom takenBy beginsChar keptOf until begins same
+unfolding ends wanted badState openings entries closeExpandedEmpty run call step stepPhase stepText begin skipped taken checked emitted sound inPlace latest pushed written cutNext cutMarkup cutQuestion cutBang cutMarked cutTag unclosedTag cutRef cutText phaseAt whole stop emitStart opening tag slashed emitEnd matched differs unmatched endEvent closingName emitQuestionMark questionEvent isDecl emitCData emitComment bangEvent emitDangling emitRef emitLastText emitText textContent stopped refused ended told withDepth moved fresh inner capacity feed checkFrom rowLen inRanges keptOf until begins same
 end-comes = refl

@@ -22,7 +22,7 @@ use Rattle.demands.proofs.Demand1.{a-reader-made-is-a-run's, eof-by-length-and-
 use Rattle.demands.proofs.Demand3.{starts-are-ends-mismatches-and-open, as-many-as-the-depth}
 use Rattle.tally.specs.declared.Counts.{Counts}
 use Rattle.tally.specs.declared.Tallied.{Tallied}
-use Rattle.tally.specs.Tally.{budget, counts, whole, talliedAs, tallied}
+use Rattle.tally.specs.Tally.{budget, counts, afterAll, talliedAs, tallied}
 
 -- an Eof is none of the answers that are counted
 module _ (a : Answer) (e : isEof a ≡ true) where
@@ -40,7 +40,7 @@ module _ (a : Answer) (e : isEof a ≡ true) where
 
 -- what is counted is counted of a run over a document within the limit
 module _ (doc stack : List ℕ) (c : Config) where
-  counted : (m : Made) → m ≡ made (length doc) c → (x : Counts) → talliedAs doc stack c m ≡ Tallied.Counted x → (length doc ≤ longest) × (counts (whole doc stack c) ≡ x)
+  counted : (m : Made) → m ≡ made (length doc) c → (x : Counts) → talliedAs doc stack c m ≡ Tallied.Counted x → (length doc ≤ longest) × (counts (afterAll doc stack c) ≡ x)
   counted (Made.Fresh r) e x h = (a-reader-made-is-a-run's doc stack c r (sym e) .0, cc)
   counted (Made.Refused y) e x h = let z : _≡_ {A = ℕ} 0 1 = cc in absurd (omega arith)
 
@@ -61,7 +61,7 @@ module _ (doc stack : List ℕ) (c : Config) (short : length doc ≤ longest) wh
   abbrev later : ℕ → World
   later k = run doc stack c (k + budget doc)
 
-  at-rest : (k : ℕ) → AtRest doc (whole doc stack c) (later k)
+  at-rest : (k : ℕ) → AtRest doc (afterAll doc stack c) (later k)
   at-rest k =
       let b : budget doc ≡ suc (length doc + 1) = omega arith in
       rw b (eof-stays doc stack c short (length doc + 1) (eof-by-length-and-two doc stack c short) k)
@@ -71,12 +71,12 @@ module _ (doc stack : List ℕ) (c : Config) (short : length doc ≤ longest) wh
     unfolding run call count
     next-count n e = ap (λ (t : Bool). pick t 1 0 + count is (run doc stack c n .answers)) e ∙ zero-add _
 
-    count-stays : (k : ℕ) → count is (later k .answers) ≡ count is (whole doc stack c .answers)
+    count-stays : (k : ℕ) → count is (later k .answers) ≡ count is (afterAll doc stack c .answers)
     count-stays zero = rw (zero-add (budget doc)) refl
     count-stays (suc k) = rw (suc-add k (budget doc)) (next-count (k + budget doc) (none _ (at-rest k .says)) ∙ count-stays k)
 
   -- THEOREM: calls beyond these count nothing
-  pub more-calls-count-nothing : (k : ℕ) → counts (later k) ≡ counts (whole doc stack c)
+  pub more-calls-count-nothing : (k : ℕ) → counts (later k) ≡ counts (afterAll doc stack c)
   more-calls-count-nothing k =
       rw (
         count-stays isStart no-start k,

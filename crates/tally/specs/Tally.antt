@@ -27,16 +27,16 @@ counts w =
 
 module _ (doc stack : List ℕ) (c : Config) where
   -- what all calls leave
-  abbrev pub whole : World
-  whole = run doc stack c (budget doc)
+  abbrev pub afterAll : World
+  afterAll = run doc stack c (budget doc)
 
   -- where a reader is made, and where none is
   abbrev pub talliedAs : Made → Tallied
-  talliedAs (Made.Fresh r) = Tallied.Counted (counts whole)
+  talliedAs (Made.Fresh r) = Tallied.Counted (counts afterAll)
   talliedAs (Made.Refused x) = Tallied.Refused x
 
   abbrev pub leftAs : Made → List ℕ
-  leftAs (Made.Fresh r) = whole .stack
+  leftAs (Made.Fresh r) = afterAll .stack
   leftAs (Made.Refused x) = stack
 
   -- the counts; 16 for a document that is too long

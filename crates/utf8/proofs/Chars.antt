@@ -11,7 +11,7 @@ use lib.Seq.{length-take-le, take-add, drop-drop, drop-append-seam}
 use Rattle.utf8.specs.Utf8.{rows, charLen, Char, Octets, Stuck, atChar, checkFrom, check}
 use Rattle.utf8.specs.Utf8.Octets.{none, char}
 use Rattle.utf8.specs.declared.Utf8.the-variants.{WellFormed, IllFormed}
-use Rattle.utf8.proofs.Table.{begins-cut, taken-fits, taken-alike, taken-matches, Alone, matches-taken, none-empty}
+use Rattle.utf8.proofs.Table.{inRanges-cut, rowLen-fits, rowLen-alike, rowLen-matches, Alone, matches-taken, none-empty}
 
 -- ---- the character that bytes begin with
 
@@ -33,18 +33,18 @@ module _ (c zs : List ℕ) where
   char-before h =
       let e = char-whole c h in
       let s = char-some c h in
-      taken-alike c (c ++ zs) (length c) (begins-cut c zs) 1 rows refl (omega arith) (omega arith) ∙ e
+      rowLen-alike c (c ++ zs) (length c) (inRanges-cut c zs) 1 rows refl (omega arith) (omega arith) ∙ e
 
   -- the bytes that the table takes are a character
   pub char-taken : 0 < length c → charLen (c ++ zs) ≡ length c → Char c
   char-taken h e =
-      let f = taken-alike (c ++ zs) c (length c) (λ r l. sym (begins-cut c zs r l)) 1 rows refl (omega arith) (omega arith) ∙ e in
-      record { matches = taken-matches rows c h f }
+      let f = rowLen-alike (c ++ zs) c (length c) (λ r l. sym (inRanges-cut c zs r l)) 1 rows refl (omega arith) (omega arith) ∙ e in
+      record { matches = rowLen-matches rows c h f }
 
 pub char-first : (bs : List ℕ) → 0 < charLen bs → Char (take (charLen bs) bs)
 char-first bs h =
     let n = charLen bs in
-    let l : length (take n bs) ≡ n = length-take-le n bs (taken-fits rows bs) in
+    let l : length (take n bs) ≡ n = length-take-le n bs (rowLen-fits rows bs) in
     char-taken (take n bs) (drop n bs) (omega arith) (ap charLen (take-append-drop n bs) ∙ sym l)
 
 -- no character starts where the table takes nothing
@@ -74,7 +74,7 @@ check-skip (suc k) i (b ∷ bs) = check-skip k (i + 1) bs ∙ same (i + 1 + k) (
 
 pub check-char : (i : ℕ) (bs : List ℕ) → 0 < charLen bs → check i bs ≡ check (i + charLen bs) (drop (charLen bs) bs)
 unfolding checkFrom
-check-char i [] h = absurd (omega (arith, taken-fits rows []))
+check-char i [] h = absurd (omega (arith, rowLen-fits rows []))
 check-char i (b ∷ bs) h = go (charLen (b ∷ bs)) h
   where
     go : (n : ℕ) → 0 < n → atChar n i (λ k. checkFrom k (i + 1) bs) ≡ check (i + n) (drop n (b ∷ bs))

@@ -12,12 +12,12 @@ use Rattle.utf8.specs.Utf8.{rows, charLen, Char, Octets, Stuck, check}
 use Rattle.utf8.specs.Utf8.Octets.{none, char}
 use Rattle.utf8.specs.declared.Utf8.{Utf8}
 use Rattle.utf8.specs.declared.Utf8.the-variants.{WellFormed, IllFormed}
-use Rattle.utf8.proofs.Table.{taken-fits, taken-most}
+use Rattle.utf8.proofs.Table.{rowLen-fits, rowLen-most}
 use Rattle.utf8.proofs.Chars.{char-whole, char-some, nothing-taken, same, check-before, check-stuck, check-end, Read, read}
 
 -- What the table takes of any bytes is at most four of them, and lies within them.
 pub char-within : (bs : List ℕ) → (charLen bs ≤ 4) × (charLen bs ≤ length bs)
-char-within bs = (taken-most 4 rows bs refl, taken-fits rows bs)
+char-within bs = (rowLen-most 4 rows bs refl, rowLen-fits rows bs)
 
 -- A character has one to four bytes.
 pub char-size : {c : List ℕ} → Char c → (1 ≤ length c) × (length c ≤ 4)

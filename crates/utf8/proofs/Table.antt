@@ -12,7 +12,7 @@ use borrow.Author.Tests.{le-leb, lt-leb, leb-true, leb-false, ltb-false}
 use Rattle.ground.specs.Choose.{pick}
 use Rattle.ground.proofs.Choices.{both, pick-same}
 use Rattle.ground.proofs.Lists.{drop-next, drop-done}
-use Rattle.utf8.specs.Utf8.{Range, inRange, begins, taken, Matches, MatchesOne}
+use Rattle.utf8.specs.Utf8.{Range, inRange, inRanges, rowLen, Matches, MatchesOne}
 
 -- ---- a range
 
@@ -29,37 +29,37 @@ module _ (lo hi b : ℕ) where
 -- ---- a row, at a position of a list
 
 -- a row with no range asks for nothing
-pub begins-all : (bs : List ℕ) → begins [] bs ≡ true
-unfolding begins
-begins-all bs = refl
+pub inRanges-all : (bs : List ℕ) → inRanges [] bs ≡ true
+unfolding inRanges
+inRanges-all bs = refl
 
 module _ (r : Range) (rs : List Range) (a : List ℕ) (i : ℕ) where
-  pub begins-end : length a ≤ i → begins (r ∷ rs) (drop i a) ≡ false
-  unfolding begins
-  begins-end h = ap (begins (r ∷ rs)) (drop-done a i h)
+  pub inRanges-end : length a ≤ i → inRanges (r ∷ rs) (drop i a) ≡ false
+  unfolding inRanges
+  inRanges-end h = ap (inRanges (r ∷ rs)) (drop-done a i h)
 
   module _ (h : i < length a) where
-    pub begins-out : inRange r (getD a i 0) ≡ false → begins (r ∷ rs) (drop i a) ≡ false
-    unfolding begins
-    begins-out e = ap (begins (r ∷ rs)) (drop-next a i h) ∙ rw e
+    pub inRanges-out : inRange r (getD a i 0) ≡ false → inRanges (r ∷ rs) (drop i a) ≡ false
+    unfolding inRanges
+    inRanges-out e = ap (inRanges (r ∷ rs)) (drop-next a i h) ∙ rw e
 
-    pub begins-in : inRange r (getD a i 0) ≡ true → begins (r ∷ rs) (drop i a) ≡ begins rs (drop (i + 1) a)
-    unfolding begins
-    begins-in e = ap (begins (r ∷ rs)) (drop-next a i h) ∙ rw e
+    pub inRanges-in : inRange r (getD a i 0) ≡ true → inRanges (r ∷ rs) (drop i a) ≡ inRanges rs (drop (i + 1) a)
+    unfolding inRanges
+    inRanges-in e = ap (inRanges (r ∷ rs)) (drop-next a i h) ∙ rw e
 
 -- bytes that begin with a row are as long as it
-begins-fits : (r : List Range) (bs : List ℕ) → begins r bs ≡ true → length r ≤ length bs
-unfolding begins
-begins-fits [] bs e = omega arith
-begins-fits (r ∷ rs) [] e = absurd (subst T (sym e) tt)
-begins-fits (r ∷ rs) (b ∷ bs) e = let h = begins-fits rs bs (both (inRange r b) (begins rs bs) e .1) in omega arith
+inRanges-fits : (r : List Range) (bs : List ℕ) → inRanges r bs ≡ true → length r ≤ length bs
+unfolding inRanges
+inRanges-fits [] bs e = omega arith
+inRanges-fits (r ∷ rs) [] e = absurd (subst T (sym e) tt)
+inRanges-fits (r ∷ rs) (b ∷ bs) e = let h = inRanges-fits rs bs (both (inRange r b) (inRanges rs bs) e .1) in omega arith
 
 -- what comes after as many bytes as a row has does not count
-pub begins-cut : (c zs : List ℕ) (r : List Range) → length r ≤ length c → begins r (c ++ zs) ≡ begins r c
-unfolding begins
-begins-cut c zs [] h = refl
-begins-cut [] zs (r ∷ rs) h = absurd (omega arith)
-begins-cut (b ∷ c) zs (r ∷ rs) h = ap (λ (t : Bool). pick (inRange r b) t false) (begins-cut c zs rs (omega arith))
+pub inRanges-cut : (c zs : List ℕ) (r : List Range) → length r ≤ length c → inRanges r (c ++ zs) ≡ inRanges r c
+unfolding inRanges
+inRanges-cut c zs [] h = refl
+inRanges-cut [] zs (r ∷ rs) h = absurd (omega arith)
+inRanges-cut (b ∷ c) zs (r ∷ rs) h = ap (λ (t : Bool). pick (inRange r b) t false) (inRanges-cut c zs rs (omega arith))
 
 -- ---- the rows that a first byte leaves which is at least lo and below to
 
@@ -78,7 +78,7 @@ rest ([] ∷ t) = []
 rest ((r ∷ rs) ∷ t) = rs
 
 abbrev pub restLen : List (List Range) → List ℕ → ℕ
-restLen t bs = pick (begins (rest t) bs) (suc (length (rest t))) 0
+restLen t bs = pick (inRanges (rest t) bs) (suc (length (rest t))) 0
 
 -- one row is left, and its first range is just that
 abbrev pub One : List (List Range) → ℕ → ℕ → Type 0
@@ -90,42 +90,42 @@ module _ (lo to b : ℕ) (bs : List ℕ) (h : lo ≤ b) (k : b < to) where
   outside r true false p q e = under-range (r .0) (r .1) b (omega (arith, ltb-false (r .0) to q))
   outside r false y p q e = over-range (r .0) (r .1) b (omega (arith, leb-false lo (r .1) p))
 
-  gone : (r : List Range) → leaves r lo to ≡ false → begins r (b ∷ bs) ≡ false
-  unfolding begins
+  gone : (r : List Range) → leaves r lo to ≡ false → inRanges r (b ∷ bs) ≡ false
+  unfolding inRanges
   gone [] e = absurd (subst T e tt)
   gone (r ∷ rs) e = rw (outside r (leb lo (r .1)) (ltb (r .0) to) refl refl e)
 
   -- the others do not count
-  left-same : (t : List (List Range)) → taken t (b ∷ bs) ≡ taken (left t lo to) (b ∷ bs)
-  unfolding taken
+  left-same : (t : List (List Range)) → rowLen t (b ∷ bs) ≡ rowLen (left t lo to) (b ∷ bs)
+  unfolding rowLen
   left-same [] = refl
   left-same (r ∷ t) = go (leaves r lo to) refl (left-same t)
     where
-      go : (m : Bool) → leaves r lo to ≡ m → taken t (b ∷ bs) ≡ taken (left t lo to) (b ∷ bs)
-          → taken (r ∷ t) (b ∷ bs) ≡ taken (pick m (r ∷ left t lo to) (left t lo to)) (b ∷ bs)
-      go true e f = ap (pick (begins r (b ∷ bs)) (length r)) f
+      go : (m : Bool) → leaves r lo to ≡ m → rowLen t (b ∷ bs) ≡ rowLen (left t lo to) (b ∷ bs)
+          → rowLen (r ∷ t) (b ∷ bs) ≡ rowLen (pick m (r ∷ left t lo to) (left t lo to)) (b ∷ bs)
+      go true e f = ap (pick (inRanges r (b ∷ bs)) (length r)) f
       go false e f = rw (gone r e) f
 
   -- where one is left, its other ranges decide
-  pub left-one : (t : List (List Range)) → One t lo to → taken t (b ∷ bs) ≡ restLen (left t lo to) bs
-  unfolding taken begins
-  left-one t e = left-same t ∙ ap (λ (u : List (List Range)). taken u (b ∷ bs)) e ∙ rw (in-range lo (to - 1) b h (omega arith))
+  pub left-one : (t : List (List Range)) → One t lo to → rowLen t (b ∷ bs) ≡ restLen (left t lo to) bs
+  unfolding rowLen inRanges
+  left-one t e = left-same t ∙ ap (λ (u : List (List Range)). rowLen u (b ∷ bs)) e ∙ rw (in-range lo (to - 1) b h (omega arith))
 
   -- where none is left, no row takes the bytes
-  pub left-none : (t : List (List Range)) → left t lo to ≡ [] → taken t (b ∷ bs) ≡ 0
-  unfolding taken
-  left-none t e = left-same t ∙ ap (λ (u : List (List Range)). taken u (b ∷ bs)) e
+  pub left-none : (t : List (List Range)) → left t lo to ≡ [] → rowLen t (b ∷ bs) ≡ 0
+  unfolding rowLen
+  left-none t e = left-same t ∙ ap (λ (u : List (List Range)). rowLen u (b ∷ bs)) e
 
 -- ---- how many bytes are taken
 
 -- no more than there are
-pub taken-fits : (t : List (List Range)) (bs : List ℕ) → taken t bs ≤ length bs
-unfolding taken
-taken-fits [] bs = omega arith
-taken-fits (r ∷ t) bs = go (begins r bs) refl (taken-fits t bs)
+pub rowLen-fits : (t : List (List Range)) (bs : List ℕ) → rowLen t bs ≤ length bs
+unfolding rowLen
+rowLen-fits [] bs = omega arith
+rowLen-fits (r ∷ t) bs = go (inRanges r bs) refl (rowLen-fits t bs)
   where
-    go : (m : Bool) → begins r bs ≡ m → taken t bs ≤ length bs → pick m (length r) (taken t bs) ≤ length bs
-    go true e h = begins-fits r bs e
+    go : (m : Bool) → inRanges r bs ≡ m → rowLen t bs ≤ length bs → pick m (length r) (rowLen t bs) ≤ length bs
+    go true e h = inRanges-fits r bs e
     go false e h = h
 
 -- every row has at most n ranges
@@ -133,14 +133,14 @@ abbrev pub upTo : ℕ → List (List Range) → Bool
 upTo n [] = true
 upTo n (r ∷ t) = pick (leb (length r) n) (upTo n t) false
 
-pub taken-most : (n : ℕ) (t : List (List Range)) (bs : List ℕ) → upTo n t ≡ true → taken t bs ≤ n
-unfolding taken
-taken-most n [] bs e = omega arith
-taken-most n (r ∷ t) bs e =
+pub rowLen-most : (n : ℕ) (t : List (List Range)) (bs : List ℕ) → upTo n t ≡ true → rowLen t bs ≤ n
+unfolding rowLen
+rowLen-most n [] bs e = omega arith
+rowLen-most n (r ∷ t) bs e =
     let q = both (leb (length r) n) (upTo n t) e in
-    go (begins r bs) (leb-true (length r) n (q .0)) (taken-most n t bs (q .1))
+    go (inRanges r bs) (leb-true (length r) n (q .0)) (rowLen-most n t bs (q .1))
   where
-    go : (m : Bool) → length r ≤ n → taken t bs ≤ n → pick m (length r) (taken t bs) ≤ n
+    go : (m : Bool) → length r ≤ n → rowLen t bs ≤ n → pick m (length r) (rowLen t bs) ≤ n
     go true h k = h
     go false h k = k
 
@@ -149,32 +149,32 @@ abbrev pub rising : ℕ → List (List Range) → Bool
 rising n [] = true
 rising n (r ∷ t) = pick (leb n (length r)) (rising (length r) t) false
 
-taken-least : (n : ℕ) (t : List (List Range)) (bs : List ℕ) → rising n t ≡ true → 0 < taken t bs → n ≤ taken t bs
-unfolding taken
-taken-least n [] bs e h = absurd (omega arith)
-taken-least n (r ∷ t) bs e h =
+rowLen-least : (n : ℕ) (t : List (List Range)) (bs : List ℕ) → rising n t ≡ true → 0 < rowLen t bs → n ≤ rowLen t bs
+unfolding rowLen
+rowLen-least n [] bs e h = absurd (omega arith)
+rowLen-least n (r ∷ t) bs e h =
     let q = both (leb n (length r)) (rising (length r) t) e in
-    go (begins r bs) (leb-true n (length r) (q .0)) (taken-least (length r) t bs (q .1)) h
+    go (inRanges r bs) (leb-true n (length r) (q .0)) (rowLen-least (length r) t bs (q .1)) h
   where
-    go : (m : Bool) → n ≤ length r → (0 < taken t bs → length r ≤ taken t bs)
-        → 0 < pick m (length r) (taken t bs) → n ≤ pick m (length r) (taken t bs)
+    go : (m : Bool) → n ≤ length r → (0 < rowLen t bs → length r ≤ rowLen t bs)
+        → 0 < pick m (length r) (rowLen t bs) → n ≤ pick m (length r) (rowLen t bs)
     go true k f h = k
     go false k f h = let l = f h in omega arith
 
 -- bytes that begin with the same rows of up to m ranges are taken alike, where no more than m are taken
-module _ (x y : List ℕ) (m : ℕ) (alike : (r : List Range) → length r ≤ m → begins r y ≡ begins r x) where
-  pub taken-alike : (n : ℕ) (t : List (List Range)) → rising n t ≡ true → 0 < taken t x → taken t x ≤ m → taken t y ≡ taken t x
-  unfolding taken
-  taken-alike n [] e h k = refl
-  taken-alike n (r ∷ t) e h k =
+module _ (x y : List ℕ) (m : ℕ) (alike : (r : List Range) → length r ≤ m → inRanges r y ≡ inRanges r x) where
+  pub rowLen-alike : (n : ℕ) (t : List (List Range)) → rising n t ≡ true → 0 < rowLen t x → rowLen t x ≤ m → rowLen t y ≡ rowLen t x
+  unfolding rowLen
+  rowLen-alike n [] e h k = refl
+  rowLen-alike n (r ∷ t) e h k =
       let q = both (leb n (length r)) (rising (length r) t) e in
       let l : rising (length r) (r ∷ t) ≡ true = rw (le-leb (length r) (length r) (omega arith)) (q .1) in
-      let s : length r ≤ m = omega (arith, taken-least (length r) (r ∷ t) x l h) in
-      rw (alike r s) (go (begins r x) h k (taken-alike (length r) t (q .1)))
+      let s : length r ≤ m = omega (arith, rowLen-least (length r) (r ∷ t) x l h) in
+      rw (alike r s) (go (inRanges r x) h k (rowLen-alike (length r) t (q .1)))
     where
-      go : (b : Bool) → 0 < pick b (length r) (taken t x) → pick b (length r) (taken t x) ≤ m
-          → (0 < taken t x → taken t x ≤ m → taken t y ≡ taken t x)
-          → pick b (length r) (taken t y) ≡ pick b (length r) (taken t x)
+      go : (b : Bool) → 0 < pick b (length r) (rowLen t x) → pick b (length r) (rowLen t x) ≤ m
+          → (0 < rowLen t x → rowLen t x ≤ m → rowLen t y ≡ rowLen t x)
+          → pick b (length r) (rowLen t y) ≡ pick b (length r) (rowLen t x)
       go true h k f = refl
       go false h k f = f h k
 
@@ -187,32 +187,32 @@ matches-length [] (b ∷ bs) m = absurd m
 matches-length (r ∷ rs) [] m = absurd m
 matches-length (r ∷ rs) (b ∷ bs) m = ap suc (matches-length rs bs (m .2))
 
-matches-begins : (r : List Range) (c : List ℕ) → Matches r c → begins r c ≡ true
-unfolding begins
+matches-begins : (r : List Range) (c : List ℕ) → Matches r c → inRanges r c ≡ true
+unfolding inRanges
 matches-begins [] c m = refl
 matches-begins (r ∷ rs) [] m = absurd m
 matches-begins (r ∷ rs) (b ∷ bs) m = rw (in-range (r .0) (r .1) b (m .0) (m .1)) (matches-begins rs bs (m .2))
 
 -- and bytes that begin with a row of as many ranges match it
-begins-matches : (r : List Range) (c : List ℕ) → begins r c ≡ true → length c ≡ length r → Matches r c
-unfolding begins
-begins-matches [] [] e l = tt
-begins-matches [] (b ∷ bs) e l = absurd (omega arith)
-begins-matches (r ∷ rs) [] e l = absurd (omega arith)
-begins-matches (r ∷ rs) (b ∷ bs) e l =
-    let q = both (inRange r b) (begins rs bs) e in
+inRanges-matches : (r : List Range) (c : List ℕ) → inRanges r c ≡ true → length c ≡ length r → Matches r c
+unfolding inRanges
+inRanges-matches [] [] e l = tt
+inRanges-matches [] (b ∷ bs) e l = absurd (omega arith)
+inRanges-matches (r ∷ rs) [] e l = absurd (omega arith)
+inRanges-matches (r ∷ rs) (b ∷ bs) e l =
+    let q = both (inRange r b) (inRanges rs bs) e in
     let i = both (leb (r .0) b) (leb b (r .1)) (q .0) in
-    (leb-true (r .0) b (i .0), leb-true b (r .1) (i .1), begins-matches rs bs (q .1) (omega arith))
+    (leb-true (r .0) b (i .0), leb-true b (r .1) (i .1), inRanges-matches rs bs (q .1) (omega arith))
 
 -- of any table: bytes that are taken whole match a row
-pub taken-matches : (t : List (List Range)) (c : List ℕ) → 0 < length c → taken t c ≡ length c → MatchesOne t c
-unfolding taken
-taken-matches [] c h e = omega arith
-taken-matches (r ∷ t) c h e = go (begins r c) refl (taken-matches t c h) e
+pub rowLen-matches : (t : List (List Range)) (c : List ℕ) → 0 < length c → rowLen t c ≡ length c → MatchesOne t c
+unfolding rowLen
+rowLen-matches [] c h e = omega arith
+rowLen-matches (r ∷ t) c h e = go (inRanges r c) refl (rowLen-matches t c h) e
   where
-    go : (m : Bool) → begins r c ≡ m → (taken t c ≡ length c → MatchesOne t c) → pick m (length r) (taken t c) ≡ length c
+    go : (m : Bool) → inRanges r c ≡ m → (rowLen t c ≡ length c → MatchesOne t c) → pick m (length r) (rowLen t c) ≡ length c
         → Matches r c ⊎ MatchesOne t c
-    go true b f e = inl (begins-matches r c b (sym e))
+    go true b f e = inl (inRanges-matches r c b (sym e))
     go false b f e = inr (f e)
 
 -- the first range of each row of u leaves just that row of t
@@ -222,17 +222,17 @@ Alone t ([] ∷ u) = ⊥
 Alone t ((r ∷ rs) ∷ u) = (left t (r .0) (suc (r .1)) ≡ (r ∷ rs) ∷ []) × Alone t u
 
 -- then bytes that match a row are taken whole
-pub matches-taken : (t u : List (List Range)) (c : List ℕ) → Alone t u → MatchesOne u c → taken t c ≡ length c
-unfolding taken
+pub matches-taken : (t u : List (List Range)) (c : List ℕ) → Alone t u → MatchesOne u c → rowLen t c ≡ length c
+unfolding rowLen
 matches-taken t [] c a m = absurd m
 matches-taken t ([] ∷ u) c a m = absurd a
 matches-taken t ((r ∷ rs) ∷ u) c a (inl m) = one c m
   where
-    one : (c : List ℕ) → Matches (r ∷ rs) c → taken t c ≡ length c
+    one : (c : List ℕ) → Matches (r ∷ rs) c → rowLen t c ≡ length c
     one [] m = absurd m
     one (b ∷ bs) m =
         left-same (r .0) (suc (r .1)) b bs (m .0) (omega (arith, m .1)) t
-        ∙ ap (λ (v : List (List Range)). taken v (b ∷ bs)) (a .0)
+        ∙ ap (λ (v : List (List Range)). rowLen v (b ∷ bs)) (a .0)
         ∙ rw (matches-begins (r ∷ rs) (b ∷ bs) m) (sym (matches-length (r ∷ rs) (b ∷ bs) m))
 matches-taken t ((r ∷ rs) ∷ u) c a (inr m) = matches-taken t u c (a .1) m
 

@@ -14,10 +14,10 @@ use borrow.Author.Needs.{needs}
 use Rattle.ground.specs.Choose.{pick}
 use Rattle.ground.specs.Part.{part}
 use Rattle.ground.proofs.Lists.{drop-next, drop-done, part-end}
-use Rattle.utf8.specs.Utf8.{inRange, utf8Tail, begins, rows, charLen, check}
+use Rattle.utf8.specs.Utf8.{inRange, utf8Tail, inRanges, rows, charLen, check}
 use Rattle.utf8.specs.declared.Utf8.{Utf8}
 use Rattle.utf8.specs.declared.Utf8.the-variants.{WellFormed, IllFormed}
-use Rattle.utf8.proofs.Table.{in-range, under-range, over-range, begins-all, begins-end, begins-out, begins-in}
+use Rattle.utf8.proofs.Table.{in-range, under-range, over-range, inRanges-all, inRanges-end, inRanges-out, inRanges-in}
 use Rattle.utf8.proofs.Table.{left, rest, restLen, One, left-one, left-none}
 use Rattle.utf8.proofs.Chars.{same, check-char, check-stuck, check-end}
 use Rattle.utf8.proofs.Rfc.{char-within, further, shift, ill-within}
@@ -26,7 +26,7 @@ use Rattle.utf8.proofs.Rfc.{char-within, further, shift, ill-within}
 
 -- a byte of lo .. hi, and then `more` of 80 .. BF
 abbrev pub follow : ℕ → ℕ → ℕ → List ℕ → Bool
-follow lo hi more bs = begins ((lo, hi) ∷ replicate more utf8Tail) bs
+follow lo hi more bs = inRanges ((lo, hi) ∷ replicate more utf8Tail) bs
 
 -- the length of a character that ends in those
 abbrev pub followLen : ℕ → ℕ → ℕ → List ℕ → ℕ
@@ -37,11 +37,11 @@ module _ (s : List ℕ) (at lo hi more i low high left : ℕ) (v : follow lo hi 
   tail-no e = rw (v ∙ e)
 
   pub tail-end : length s ≤ i → 0 ≡ followLen lo hi more (drop at s)
-  tail-end h = tail-no (begins-end (low, high) (replicate left utf8Tail) s i h)
+  tail-end h = tail-no (inRanges-end (low, high) (replicate left utf8Tail) s i h)
 
   module _ (h : i < length s) where
     tail-out : inRange (low, high) (getD s i 0) ≡ false → 0 ≡ followLen lo hi more (drop at s)
-    tail-out e = tail-no (begins-out (low, high) (replicate left utf8Tail) s i h e)
+    tail-out e = tail-no (inRanges-out (low, high) (replicate left utf8Tail) s i h e)
 
     pub tail-low : getD s i 0 < low → 0 ≡ followLen lo hi more (drop at s)
     tail-low l = tail-out (under-range low high (getD s i 0) l)
@@ -50,16 +50,16 @@ module _ (s : List ℕ) (at lo hi more i low high left : ℕ) (v : follow lo hi 
     tail-high l = tail-out (over-range low high (getD s i 0) l)
 
     module _ (l : low ≤ getD s i 0) (u : getD s i 0 ≤ high) where
-      tail-in : follow lo hi more (drop at s) ≡ begins (replicate left utf8Tail) (drop (i + 1) s)
-      tail-in = v ∙ begins-in (low, high) (replicate left utf8Tail) s i h (in-range low high (getD s i 0) l u)
+      tail-in : follow lo hi more (drop at s) ≡ inRanges (replicate left utf8Tail) (drop (i + 1) s)
+      tail-in = v ∙ inRanges-in (low, high) (replicate left utf8Tail) s i h (in-range low high (getD s i 0) l u)
 
       pub tail-last : left ≡ 0 → more + 2 ≡ followLen lo hi more (drop at s)
-      tail-last z = rw (tail-in, z, begins-all (drop (i + 1) s))
+      tail-last z = rw (tail-in, z, inRanges-all (drop (i + 1) s))
 
       pub tail-turn : (left ≡ 0 → ⊥) → follow lo hi more (drop at s) ≡ follow 0x80 0xBF (left - 1) (drop (i + 1) s)
       tail-turn z = tail-in ∙ go left z
         where
-          go : (n : ℕ) → (n ≡ 0 → ⊥) → begins (replicate n utf8Tail) (drop (i + 1) s) ≡ follow 0x80 0xBF (n - 1) (drop (i + 1) s)
+          go : (n : ℕ) → (n ≡ 0 → ⊥) → inRanges (replicate n utf8Tail) (drop (i + 1) s) ≡ follow 0x80 0xBF (n - 1) (drop (i + 1) s)
           go zero z = absurd (z refl)
           go (suc n) z = rw sub-one
 
@@ -81,7 +81,7 @@ module _ (s : List ℕ) (i : ℕ) (h : i < length s) where
 
   -- it is below to, and a character by itself
   pub row-low : (to : ℕ) → getD s i 0 < to → One rows 0 to → rest (left rows 0 to) ≡ [] → 1 ≡ charLen (drop i s)
-  row-low to u e z = row-mid 0 to (omega arith) u e 1 (rw (z, begins-all (drop (i + 1) s)))
+  row-low to u e z = row-mid 0 to (omega arith) u e 1 (rw (z, inRanges-all (drop (i + 1) s)))
 
   -- it is k
   pub row-key : (k : ℕ) → getD s i 0 ≡ k → One rows k (suc k)

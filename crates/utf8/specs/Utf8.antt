@@ -39,19 +39,19 @@ rows =
     ∷ []
 
 -- the bytes begin with a byte of each range in turn
-unfoldable pub begins : List Range → List ℕ → Bool
-begins [] bs = true
-begins (r ∷ rs) [] = false
-begins (r ∷ rs) (b ∷ bs) = pick (inRange r b) (begins rs bs) false
+unfoldable pub inRanges : List Range → List ℕ → Bool
+inRanges [] bs = true
+inRanges (r ∷ rs) [] = false
+inRanges (r ∷ rs) (b ∷ bs) = pick (inRange r b) (inRanges rs bs) false
 
 -- how many bytes the first row takes that the bytes begin with; 0 where they begin with none
-unfoldable pub taken : List (List Range) → List ℕ → ℕ
-taken [] bs = 0
-taken (r ∷ rs) bs = pick (begins r bs) (length r) (taken rs bs)
+unfoldable pub rowLen : List (List Range) → List ℕ → ℕ
+rowLen [] bs = 0
+rowLen (r ∷ rs) bs = pick (inRanges r bs) (length r) (rowLen rs bs)
 
 -- the length of the well-formed character that the bytes begin with, or 0
 abbrev pub charLen : List ℕ → ℕ
-charLen bs = taken rows bs
+charLen bs = rowLen rows bs
 
 -- what comes of a character of n bytes at i: with none the bytes are ill formed there, else n - 1 bytes more belong to it
 abbrev pub atChar : ℕ → ℕ → (ℕ → Utf8) → Utf8

@@ -5,7 +5,7 @@ ghost use Prim.Native.Nat.{_+_};
 ghost use lib.ListN.{drop, replicate};
 ghost use Rattle.ground.specs.Choose.{pick};
 ghost use Rattle.ground.specs.Part.{part as partOf};
-ghost use Rattle.utf8.specs.Utf8.{utf8Tail, begins, charLen, check as checkOf};
+ghost use Rattle.utf8.specs.Utf8.{utf8Tail, inRanges, charLen, check as checkOf};
 
 // What the check says of bytes: all are well formed, or where the first ill-formed sequence begins. No well-formed character starts there, and all before it
 // is well formed.
@@ -17,7 +17,7 @@ pub enum Utf8 {
 // The length of a character whose bytes after the first start at `at`: one of lo..=hi, and then `more` of 80..=BF. 0 where they do
 // not stand there.
 fn tail_len(s: &[u8], at: usize, lo: u8, hi: u8, more: u8) -> usize
-    ensures { λ r. ⌜ r ≡ pick (begins ((lo, hi) ∷ replicate more utf8Tail) (drop at (now (s .entry)))) (more + 2) 0 ⌝ }
+    ensures { λ r. ⌜ r ≡ pick (inRanges ((lo, hi) ∷ replicate more utf8Tail) (drop at (now (s .entry)))) (more + 2) 0 ⌝ }
 {
     let mut i = at;
     let mut low = lo;

@@ -7,11 +7,11 @@ use Rattle.emit.proofs.bang.checked_comment.Tie as tie
 
 returns : tie.Need-returns
 unfolding checkedComment
-returns c = simp (c .before .enum-told .given .1, ← c .before .before .before .pair-end .ensures) (c .event .ensures)
+returns c = simp (c .before .enum-told .given .1, ← c .before .before .before .pair-end .ensures) (c .bang-event .ensures)
 
 returns-2 : tie.Need-returns-2
 unfolding checkedComment
-returns-2 c = simp (lt-ltb _ _ (c .before .if1 .taken), c .before .before .before .before .second .given .1, ← c .before .before .before .before .before .before .pair-end .ensures) (c .event2 .ensures)
+returns-2 c = simp (lt-ltb _ _ (c .before .if1 .taken), c .before .before .before .before .second .given .1, ← c .before .before .before .before .before .before .pair-end .ensures) (c .bang-event2 .ensures)
 
 returns-3 : tie.Need-returns-3
 unfolding checkedComment

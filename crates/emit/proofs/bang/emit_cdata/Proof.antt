@@ -6,7 +6,7 @@ use Rattle.emit.proofs.bang.emit_cdata.Tie as tie
 
 returns : tie.Need-returns
 unfolding emitCData
-returns c = simp (← c .before .inner .ensures, c .before .before .if1 .taken, ← c .before .before .before .starts-with .ensures) (c .event .ensures)
+returns c = simp (← c .before .inner .ensures, c .before .before .if1 .taken, ← c .before .before .before .starts-with .ensures) (c .bang-event .ensures)
 
 returns-2 : tie.Need-returns-2
 unfolding emitCData

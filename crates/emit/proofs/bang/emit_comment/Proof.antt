@@ -10,7 +10,7 @@ returns c = simp (c .before .if2 .taken, ← c .before .before .inner .ensures, 
 
 returns-2 : tie.Need-returns-2
 unfolding emitComment
-returns-2 c = simp (c .before .if2 .left, ← c .before .before .inner .ensures, c .before .before .before .if1 .taken, ← c .before .before .before .before .starts-with .ensures) (c .event .ensures)
+returns-2 c = simp (c .before .if2 .left, ← c .before .before .inner .ensures, c .before .before .before .if1 .taken, ← c .before .before .before .before .starts-with .ensures) (c .bang-event .ensures)
 
 returns-3 : tie.Need-returns-3
 unfolding emitComment

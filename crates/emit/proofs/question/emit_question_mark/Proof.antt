@@ -11,7 +11,7 @@ returns c = simp (lt-ltb _ _ (c .before .if1 .taken), ← c .before .before .siz
 
 returns-2 : tie.Need-returns-2
 unfolding emitQuestionMark
-returns-2 c = simp (← c .before .event .ensures, ← c .before .before .inner .ensures, le-ltb _ _ (c .before .before .before .if1 .left), ← c .before .before .before .before .size .ensures) (c .event2 .ensures)
+returns-2 c = simp (← c .before .question-event .ensures, ← c .before .before .inner .ensures, le-ltb _ _ (c .before .before .before .if1 .left), ← c .before .before .before .before .size .ensures) (c .event .ensures)
 
 pub emit-question-mark-spec : {M : Type 1} → statement M
 emit-question-mark-spec =

@@ -6,7 +6,7 @@ use Rattle.emit.proofs.start.emit_start.Tie as tie
 
 returns : tie.Need-returns
 unfolding emitStart
-returns c = simp (← c .before .tag .ensures, c .before .before .if2 .taken, ← c .before .before .before .inner .ensures, c .before .before .before .before .if1 .taken, ← c .before .before .before .before .before .slashed .ensures) (c .opened .ensures)
+returns c = simp (← c .before .tag .ensures, c .before .before .if2 .taken, ← c .before .before .before .inner .ensures, c .before .before .before .before .if1 .taken, ← c .before .before .before .before .before .slashed .ensures) (c .opening .ensures)
 
 returns-2 : tie.Need-returns-2
 unfolding emitStart
@@ -14,7 +14,7 @@ returns-2 c = simp (← c .before .tag2 .ensures, c .before .before .if2 .left, 
 
 returns-3 : tie.Need-returns-3
 unfolding emitStart
-returns-3 c = simp (← c .before .tag3 .ensures, ← c .before .before .inner2 .ensures, c .before .before .before .if1 .left, ← c .before .before .before .before .slashed .ensures) (c .opened2 .ensures)
+returns-3 c = simp (← c .before .tag3 .ensures, ← c .before .before .inner2 .ensures, c .before .before .before .if1 .left, ← c .before .before .before .before .slashed .ensures) (c .opening2 .ensures)
 
 pub emit-start-spec : {M : Type 1} → statement M
 emit-start-spec =

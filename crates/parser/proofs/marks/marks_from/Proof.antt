@@ -4,7 +4,7 @@ use mathlib.Core.Path.{_≡_}
 use lib.ListN.{length}
 use Rattle.parser.specs.Machine.{scanAt}
 use Rattle.parser.specs.Marks.{marksStep, marksAnswer, seeing}
-use Rattle.parser.proofs.Machine.{runs, run-end, run-stop}
+use Rattle.parser.proofs.Machine.{runs, run-end, run-halt}
 use Rattle.parser.proofs.marks.marks_from.Statement.{statement}
 use Rattle.parser.proofs.marks.marks_from.Tie as tie
 
@@ -33,4 +33,4 @@ marks-from-spec =
     (λ c. search runs)
     (λ c. search runs)
     (λ c. search (runs, run-end marksAnswer))
-    (λ c. search (runs, run-stop marksAnswer)))
+    (λ c. search (runs, run-halt marksAnswer)))

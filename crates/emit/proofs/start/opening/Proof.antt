@@ -1,20 +1,20 @@
--- `opened` meets its contract. Assumes nothing.
+-- `opening` meets its contract. Assumes nothing.
 use borrow.Author.Tests.{le-ltb, lt-ltb}
 use borrow.Author.Needs.{needs}
-use Rattle.emit.specs.Start.{opened}
-use Rattle.emit.proofs.start.opened.Statement.{statement}
-use Rattle.emit.proofs.start.opened.Tie as tie
+use Rattle.emit.specs.Start.{opening}
+use Rattle.emit.proofs.start.opening.Statement.{statement}
+use Rattle.emit.proofs.start.opening.Tie as tie
 
 returns : tie.Need-returns
-unfolding opened
+unfolding opening
 returns c = simp (← c .before .with-depth .ensures, lt-ltb _ _ (c .before .before .before .if1 .taken)) (c .event .ensures)
 
 returns-2 : tie.Need-returns-2
-unfolding opened
+unfolding opening
 returns-2 c = simp (le-ltb _ _ (c .before .if1 .left)) (c .stop .ensures)
 
-pub opened-spec : {M : Type 1} → statement M
-opened-spec =
+pub opening-spec : {M : Type 1} → statement M
+opening-spec =
     tie.close
     (tie.spec
     (λ c. search needs)
