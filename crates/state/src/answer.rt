@@ -2,7 +2,7 @@
 use crate::place::Position;
 use crate::place::Span;
 ghost use mathlib.Core.Path.{_≡_};
-ghost use Rattle.state.specs.Values.{kindNumber, spanless as plainOf, numberedOf, eventValues, refusalValues, valuesOf};
+ghost use Rattle.state.specs.Values.{kindNumber, spanless as spanlessOf, numberedOf, eventValues, refusalValues, valuesOf};
 
 pub enum Kind {
     Start,
@@ -98,7 +98,7 @@ impl Kind {
 
 // A refusal's number, with no spans.
 fn spanless(number: usize) -> Numbered
-    ensures { λ r. ⌜ r ≡ plainOf number ⌝ }
+    ensures { λ r. ⌜ r ≡ spanlessOf number ⌝ }
 {
     let none = Span { from: 0, to: 0 };
     Numbered {
