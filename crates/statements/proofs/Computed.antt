@@ -1,6 +1,6 @@
 -- The statements of the demands, computed on the examples of demand 3: with a wrong definition of a call that a clause speaks of, the two sides differ.
 -- Assumes nothing.
-use mathlib.Core.Path.{_≡_, refl}
+use mathlib.Core.Path.{_≡_, refl, sym, _∙_}
 use mathlib.Core.List.{map}
 use Rattle.state.specs.Make.{badState}
 use Rattle.demands.specs.Answers.{count}
@@ -25,12 +25,17 @@ use Rattle.reader.specs.Sound.{inPlace, sound}
 use Rattle.reader.specs.Step.{emitted, checked, taken, skipped, stepText, begin, stepPhase, step}
 use Rattle.demands.specs.Run.{call, run}
 use Rattle.demands.specs.Open.{entries}
-use Rattle.statements.specs.Sides.{left, right, sidesFrom, sides, ends, wanted}
+use Rattle.statements.specs.Sides.{left, right, sides, ends, wanted}
+use Rattle.statements.proofs.Settled.{number, flag, phase, slots, settings, world, settledFrom, settled, all-settled}
+
+-- at worlds that are worked out
+settled-hold : map (settled left) openings ≡ map (settled right) openings
+unfolding settled settledFrom world number flag phase slots settings leftOpen count badState openings entries closeExpandedEmpty run call step stepPhase stepText begin skipped taken checked emitted sound inPlace latest pushed written cutNext cutMarkup cutQuestion cutBang cutMarked cutTag unclosedTag cutRef cutText phaseAt whole stop emitStart opening tag slashed emitEnd matched differs unmatched endEvent closingName emitQuestionMark questionEvent isDecl emitCData emitComment bangEvent emitDangling emitRef emitLastText emitText textContent stopped refused ended told withDepth moved fresh inner capacity feed checkFrom rowLen inRanges keptOf until begins same
+settled-hold = refl
 
 -- THEOREM
 pub clauses-hold : map (sides left) openings ≡ map (sides right) openings
-unfolding sides sidesFrom leftOpen count badState openings entries closeExpandedEmpty run call step stepPhase stepText begin skipped taken checked emitted sound inPlace latest pushed written cutNext cutMarkup cutQuestion cutBang cutMarked cutTag unclosedTag cutRef cutText phaseAt whole stop emitStart opening tag slashed emitEnd matched differs unmatched endEvent closingName emitQuestionMark questionEvent isDecl emitCData emitComment bangEvent emitDangling emitRef emitLastText emitText textContent stopped refused ended told withDepth moved fresh inner capacity feed checkFrom rowLen inRanges keptOf until begins same
-clauses-hold = refl
+clauses-hold = sym (all-settled left openings) ∙ settled-hold ∙ all-settled right openings
 
 -- THEOREM
 pub end-comes : map ends openings ≡ map wanted openings
