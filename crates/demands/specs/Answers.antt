@@ -1,7 +1,7 @@
 -- The answers that the demands name, and how many there are of a kind. All is told from answers alone.
 use Prim.Native.Nat.{ℕ, _+_, _≤_}
 use mathlib.Core.Path.{_≡_}
-use mathlib.Core.Bool.{Bool}
+use mathlib.Core.Bool.{Bool, false}
 use mathlib.Core.List.{List, [], _∷_}
 use lib.Dec.{eqb}
 use Rattle.ground.specs.Choose.{pick}
@@ -38,7 +38,12 @@ isUnmatched a = eqb (valuesOf a .number) 11
 abbrev pub isBadState : Answer → Bool
 isBadState a = eqb (valuesOf a .number) 17
 
--- how many of some answers
-unfoldable pub count : (Answer → Bool) → List Answer → ℕ
+-- how many of some answers, or of whatever else tells them
+unfoldable pub count : {A : Type 0} → (A → Bool) → List A → ℕ
 count is [] = 0
 count is (a ∷ before) = pick (is a) 1 0 + count is before
+
+-- the latest of them, which stands first, is such a one
+abbrev pub latestIs : {A : Type 0} → (A → Bool) → List A → Bool
+latestIs is [] = false
+latestIs is (a ∷ before) = is a

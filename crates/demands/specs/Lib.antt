@@ -1,5 +1,6 @@
 pub mod Answers
 pub mod Run
+pub mod Calls
 pub mod Open
 pub mod Openings
 pub mod Table
