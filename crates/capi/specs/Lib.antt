@@ -1,3 +1,4 @@
 pub mod Numbers
 pub mod Slots
 pub mod Calls
+pub mod Hosts

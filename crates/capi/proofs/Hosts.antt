@@ -1,0 +1,124 @@
+-- A host's calls are a run, told in numbers; so the demands hold of what a host hears. Assumes nothing.
+use Prim.Native.Nat.{ℕ, zero, suc, _+_, _≤_}
+use native.Mathlib.Omega.{arith}
+use mathlib.Core.Path.{_≡_, refl, sym, ap, ap₂, _∙_, subst}
+use mathlib.Core.Bool.{Bool, true, false}
+use mathlib.Core.List.{List, [], _∷_, map}
+use lib.ListN.{length, getD, take}
+use lib.Seq.{getD-take}
+use lib.Dec.{eqb}
+use Rattle.ground.proofs.Choices.{pick-nlt}
+use Rattle.state.specs.declared.config.Config.{Config}
+use Rattle.state.specs.declared.answer.Kind.{Kind}
+use Rattle.state.specs.declared.answer.Answer.{Answer}
+use Rattle.state.specs.declared.answer.Values.{Values}
+use Rattle.state.specs.declared.run.Reader.{Reader}
+use Rattle.state.specs.declared.run.Made.{Made}
+use Rattle.state.specs.Limits.{longest}
+use Rattle.state.specs.Make.{fresh, made}
+use Rattle.state.specs.Values.{kindNumber, valuesOf}
+use Rattle.demands.specs.Answers.{isMismatch, count, latestIs}
+use Rattle.demands.specs.Run.{World, said, call, run}
+use Rattle.demands.proofs.Demand3.{starts-are-ends-mismatches-and-open, as-many-as-the-depth}
+use Rattle.demands.proofs.Joined.{latest-eof}
+use Rattle.capi.specs.Numbers.{configOf, stateSlots, valuesNumbers, answerSlots}
+use Rattle.capi.specs.Slots.{put}
+use Rattle.capi.specs.Calls.{madeNumber, Called}
+use Rattle.capi.specs.Hosts.{Heard, Host, HostCalls, none, more, numbersHeard, numbersTold, heardKind, heardNumber, namesOpen}
+use Rattle.capi.proofs.Rounds.{holds}
+use Rattle.capi.proofs.Runs.{Holds, a-host's-reader-is-a-run's, a-host's-call-is-the-run's}
+
+-- a host stands where a run stands: the same stack, a state that holds its reader, and the numbers of its answers
+pub record Follows (w : World) (h : Host) : Type 0 where
+  pub stack : h .stack ≡ w .stack
+  pub state : Holds (h .state) (w .reader)
+  pub heard : map numbersHeard (h .heard) ≡ map numbersTold (w .answers)
+
+-- the numbers that are written are the first ones
+written-first : (answer : List ℕ) (v : Values) → answerSlots ≤ length answer → take answerSlots (put answer (valuesNumbers v)) ≡ valuesNumbers v
+unfolding put valuesNumbers
+written-first answer v l = ap (take answerSlots) (sym (pick-nlt _ _ _ _ _ l refl))
+
+module _ (doc stack : List ℕ) (settings : ℕ) where
+  -- THEOREM: a host that was told 0 and lends each call what the call before left stands where the run stands, and the document is within the limit
+  pub a-host's-calls-are-a-run : {n : ℕ} {h : Host} → HostCalls doc stack settings n h → (length doc ≤ longest) × Follows (run doc stack (configOf settings) n) h
+  unfolding run call
+  a-host's-calls-are-a-run (none {lent} {state} o) =
+      let m = a-host's-reader-is-a-run's doc stack lent state settings o in
+      (m .0, record { stack = refl; state = m .1; heard = refl })
+  a-host's-calls-are-a-run (more {n} {h} {answer} {number} {stack'} {state'} {answer'} before room called) =
+      let m = a-host's-calls-are-a-run before in
+      let w : World = run doc stack (configOf settings) n in
+      let same : Called doc (w .stack) (h .state) answer number stack' state' answer' =
+      subst (λ (names : List ℕ). Called doc names (h .state) answer number stack' state' answer') (m .1 .stack) called in
+      let t = a-host's-call-is-the-run's doc w (h .state) answer number stack' state' answer' (m .1 .state) room same in
+      let slots : take answerSlots answer' ≡ valuesNumbers (valuesOf (said doc w)) = ap (take answerSlots) (t .values) ∙ written-first answer (valuesOf (said doc w)) room in
+      (m .0, record { stack = t .stack; state = t .state; heard = ap₂ _∷_ (ap₂ _∷_ (t .number) slots) (m .1 .heard) })
+
+-- THEOREM: over a document within the limit, with room for a state and an answer, a host can make n calls, for any n
+pub a-host-can-call : (doc stack lent answer : List ℕ) (settings : ℕ) → length doc ≤ longest → stateSlots ≤ length lent → answerSlots ≤ length answer
+    → (n : ℕ) → (h : Host) × HostCalls doc stack settings n h
+unfolding made
+a-host-can-call doc stack lent answer settings short l room zero =
+    let c : Config = configOf settings in
+    let e : Made.Fresh (fresh (length doc) c) ≡ made (length doc) c = pick-nlt _ _ _ _ _ short refl in
+    (_, none {lent = lent} (record { said = pick-nlt _ _ _ _ _ l (ap madeNumber e); slots = refl }))
+a-host-can-call doc stack lent answer settings short l room (suc n) =
+    let before = a-host-can-call doc stack lent answer settings short l room n in
+    (_, more {answer = answer} (before .1) room (record { said = refl; names = refl; reader = refl; slots = refl }))
+
+-- ---- what is told in numbers is told of answers
+
+module _ (is : Heard → Bool) (was : Answer → Bool) (agree : (x : Heard) (a : Answer) → numbersHeard x ≡ numbersTold a → is x ≡ was a) where
+  same-told : (xs : List Heard) (answers : List Answer) → map numbersHeard xs ≡ map numbersTold answers
+      → (count is xs ≡ count was answers) × (latestIs is xs ≡ latestIs was answers)
+  unfolding count
+  same-told [] [] e = (refl, refl)
+  same-told [] (a ∷ before) e = let z : _≡_ {A = ℕ} 0 1 = cc in absurd (omega arith)
+  same-told (x ∷ xs) [] e = let z : _≡_ {A = ℕ} 0 1 = cc in absurd (omega arith)
+  same-told (x ∷ xs) (a ∷ before) e = let now = agree x a (cc) in (rw (now, same-told xs before (cc) .0), now)
+
+-- an event of this kind
+abbrev isKind : Kind → Answer → Bool
+isKind kind a = eqb (valuesOf a .kind) (kindNumber kind)
+
+module _ (x : Heard) (a : Answer) (e : numbersHeard x ≡ numbersTold a) where
+  same-kind : (kind : Kind) → heardKind kind x ≡ isKind kind a
+  unfolding valuesNumbers
+  same-kind kind = ap (λ (k : ℕ). eqb k (kindNumber kind)) (sym (getD-take answerSlots (x .slots) 0 0 (omega arith)) ∙ ap (λ (vs : List ℕ). getD vs 1 0) e)
+
+  same-number : (n : ℕ) → heardNumber n x ≡ eqb (valuesOf a .number) n
+  same-number n = ap (λ (vs : List ℕ). eqb (getD vs 0 0) n) e
+
+-- ---- the demands, in the numbers that a host hears
+
+module _ (doc stack : List ℕ) (settings : ℕ) {n : ℕ} {h : Host} (calls : HostCalls doc stack settings n h) where
+  abbrev w : World
+  w = run doc stack (configOf settings) n
+
+  short : length doc ≤ longest
+  short = a-host's-calls-are-a-run doc stack settings calls .0
+
+  follows : Follows w h
+  follows = a-host's-calls-are-a-run doc stack settings calls .1
+
+  heard-kind : (kind : Kind) → (count (heardKind kind) (h .heard) ≡ count (isKind kind) (w .answers)) × (latestIs (heardKind kind) (h .heard) ≡ latestIs (isKind kind) (w .answers))
+  heard-kind kind = same-told (heardKind kind) (isKind kind) (λ x a e. same-kind x a e kind) (h .heard) (w .answers) (follows .heard)
+
+  -- THEOREM: "end of file comes by call number length + 2", and stays
+  pub after-length-and-two-calls-a-host-hears-eof : length doc + 2 ≤ n → latestIs (heardKind Kind.Eof) (h .heard) ≡ true
+  after-length-and-two-calls-a-host-hears-eof enough = heard-kind Kind.Eof .1 ∙ latest-eof doc stack (configOf settings) short n enough
+
+  -- THEOREM: "Starts = Ends + mismatches + names open"
+  pub a-host's-starts-are-ends-mismatches-and-open : configOf settings .«allow_unmatched_ends» ≡ false
+      → count (heardKind Kind.Start) (h .heard) ≡ count (heardKind Kind.End) (h .heard) + count (heardNumber 10) (h .heard) + namesOpen h
+  a-host's-starts-are-ends-mismatches-and-open off =
+      let open-names : namesOpen h ≡ w .reader .depth .0 = ap (λ (r : Reader). r .depth .0) (holds (h .state) (w .reader) (follows .state) .3) in
+      omega (
+        arith,
+        heard-kind Kind.Start .0,
+        heard-kind Kind.End .0,
+        same-told (heardNumber 10) isMismatch (λ x a e. same-number x a e 10) (h .heard) (w .answers) (follows .heard) .0,
+        starts-are-ends-mismatches-and-open doc stack (configOf settings) short off n,
+        as-many-as-the-depth doc stack (configOf settings) short n,
+      )
