@@ -1,16 +1,20 @@
 -- DEMAND 3: no opening is lost and none is closed twice. Any number of calls from a fresh reader, over any document within the limit, any lent stack and
 -- unchanged bytes, stack and settings. A clause that speaks of end checks or of unmatched ends says so; the others hold with any settings.
 -- Assumes nothing.
-use Prim.Native.Nat.{ℕ, zero, suc, _+_, _≤_}
+use Prim.Native.Nat.{ℕ, zero, suc, _+_, _-_, _≤_, _<_}
 use mathlib.Core.Path.{_≡_, refl, sym, ap, _∙_}
 use mathlib.Core.List.{List, [], _∷_}
 use mathlib.Core.Bool.{true, false}
 use mathlib.Core.Logic.{_⊎_, inl, inr}
 use native.Mathlib.Omega.{arith}
-use lib.ListN.{length, take}
+use lib.ListN.{length, getD, take, drop, take-append-drop}
 use borrow.Author.Tests.{ne-eqb, eqb-false}
+use Rattle.ground.specs.Bytes.{lt}
+use Rattle.ground.specs.Equal.{begins}
+use Rattle.ground.specs.Part.{part}
 use Rattle.ground.proofs.Choices.{clash, pick-cases}
-use Rattle.ground.proofs.Lists.{part-first}
+use Rattle.ground.proofs.Equal.{begins-with}
+use Rattle.ground.proofs.Lists.{drop-next, part-in, part-first}
 use Rattle.white.specs.White.{nameLen}
 use Rattle.state.specs.declared.config.Config.{Config}
 use Rattle.state.specs.declared.answer.Kind.{Kind}
@@ -26,6 +30,17 @@ use Rattle.demands.specs.Answers.{isStart, isEnd, isMismatch, isUnmatche
 use Rattle.demands.specs.Open.{entries, opened, newest, leftOpen, strays}
 use Rattle.demands.proofs.Held.{other-writes, entries-length, held-turn, run-held}
 use Rattle.demands.proofs.Clauses.{Closing, Straying, tally, does, setting, at-start, tag-at-start, at-no-start, at-end, at-mismatch, at-unmatched, at-others}
+
+-- the first byte of a span, and the others
+part-next : (s : List ℕ) (from to : ℕ) → from < to → to ≤ length s → part s from to ≡ getD s from 0 ∷ part s (from + 1) to
+part-next s from to h k =
+    let e : to - from ≡ suc (to - (from + 1)) = omega arith in
+    part-in s from to (omega arith) k
+    ∙ rw (e, drop-next s from (omega arith)) (ap (λ (bs : List ℕ). getD s from 0 ∷ bs) (sym (part-in s (from + 1) to (omega arith) k)))
+
+-- bytes begin with the first of them and some of the others
+begins-first : (b n : ℕ) (bs : List ℕ) → begins (b ∷ bs) (b ∷ take n bs) ≡ true
+begins-first b n bs = ap (λ (xs : List ℕ). begins (b ∷ xs) (b ∷ take n bs)) (sym (take-append-drop n bs)) ∙ begins-with (b ∷ take n bs) (drop n bs)
 
 module _ (doc stack : List ℕ) (c : Config) (short : length doc ≤ longest) (n : ℕ) where
   -- after n calls, after one more, and what that one answers
@@ -52,6 +67,24 @@ module _ (doc stack : List ℕ) (c : Config) (short : length doc ≤ longest) (n
   the-name-is-its-tag's e =
       let t = tag-at-start doc stack c short n e in
       rw (← t .named) (part-first doc _ _ _ (t .ordered) (omega (arith, t .within, in-document)) (name-fits doc _ t))
+
+  -- THEOREM: its tag, the answer's piece, begins with `<`, and the name stands right after it
+  pub the-name-stands-right-after-the-lt : isStart answer ≡ true
+      → (getD doc (valuesOf answer .piece .from) 0 ≡ lt) × (nameOf answer .from ≡ valuesOf answer .piece .from + 1)
+  the-name-stands-right-after-the-lt e = let t = tag-at-start doc stack c short n e in (t .opens, t .starts)
+
+  -- THEOREM: so the bytes of the tag are `<`, the name and a rest
+  pub its-tag-begins-with-lt-and-the-name : isStart answer ≡ true
+      → begins (bytes doc (valuesOf answer .piece)) (lt ∷ bytes doc (nameOf answer)) ≡ true
+  its-tag-begins-with-lt-and-the-name e =
+      let t = tag-at-start doc stack c short n e in
+      let turn = held-turn doc c short before (run-held doc c short stack n) in
+      let fits = name-fits doc _ t in
+      let from : ℕ = valuesOf answer .piece .from in
+      let to : ℕ = valuesOf answer .piece .to in
+      let name : bytes doc (nameOf answer) ≡ take (valuesOf answer .name) (part doc (from + 1) to) =
+      rw (t .starts) (part-first doc (from + 1) to (valuesOf answer .name) (omega arith) (turn .within) (omega arith)) in
+      rw (part-next doc from to (omega arith) (turn .within), t .opens, name) (begins-first lt (valuesOf answer .name) (part doc (from + 1) to))
 
   -- THEOREM: "and nothing else adds one": what is open after it was open before
   pub nothing-else-adds : isStart answer ≡ false → (opened after ≡ opened before) ⊎ (opened before ≡ newest before ∷ opened after)

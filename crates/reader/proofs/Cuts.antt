@@ -1,7 +1,7 @@
 -- What a cut at a place gives: a piece that starts there and ends in the document, where its next phase may stand; or a refusal of bytes that start
 -- there. Assumes nothing.
 use Prim.Native.Nat.{ℕ, _+_, _≤_, _<_}
-use mathlib.Core.Path.{_≡_, refl}
+use mathlib.Core.Path.{_≡_, refl, ap}
 use mathlib.Core.List.{List, _∷_}
 use mathlib.Core.Logic.{inl, inr}
 use native.Mathlib.Omega.{arith}
@@ -45,7 +45,19 @@ fewest Shape.Comment = 1
 fewest Shape.CData = 1
 fewest Shape.QuestionMark = 1
 fewest Shape.End = 1
-fewest Shape.Start = 1
+fewest Shape.Start = 2
+
+-- markup begins with `<`
+abbrev pub Opens : List ℕ → ℕ → Shape → Type 0
+Opens doc from Shape.Text = Unit {0}
+Opens doc from Shape.LastText = Unit {0}
+Opens doc from Shape.GeneralRef = Unit {0}
+Opens doc from Shape.Dangling = Unit {0}
+Opens doc from Shape.Comment = getD doc from 0 ≡ lt
+Opens doc from Shape.CData = getD doc from 0 ≡ lt
+Opens doc from Shape.QuestionMark = getD doc from 0 ≡ lt
+Opens doc from Shape.End = getD doc from 0 ≡ lt
+Opens doc from Shape.Start = getD doc from 0 ≡ lt
 
 -- a phase that comes after a piece may stand where the piece ends
 abbrev pub Lands : List ℕ → ℕ → Phase → Type 0
@@ -73,6 +85,7 @@ pub record Lies (doc : List ℕ) (from : ℕ) (s : Span) : Type 0 where
 pub record CutOff (doc : List ℕ) (from : ℕ) (p : Piece) : Type 0 where
   pub lies : Lies doc from (p .span)
   pub moves : from + fewest (p .shape) ≤ p .span .to
+  pub opens : Opens doc from (p .shape)
   pub lands : Lands doc (p .span .to) (p .next)
 
 -- a refusal of what starts at `from`
@@ -118,9 +131,9 @@ module _ (doc : List ℕ) (from : ℕ) where
   abbrev Here : Cut → Type 0
   Here = CutAt doc from
 
-  whole-cut : (shape : Shape) (to : ℕ) (next : Phase) → from ≤ to → to ≤ length doc → from + fewest shape ≤ to → Lands doc to next → Here (whole shape from to next)
+  whole-cut : (shape : Shape) (to : ℕ) (next : Phase) → from ≤ to → to ≤ length doc → from + fewest shape ≤ to → Opens doc from shape → Lands doc to next → Here (whole shape from to next)
   unfolding whole
-  whole-cut shape to next h k m l = record { lies = record { starts = refl; ends = h; within = k }; moves = m; lands = l }
+  whole-cut shape to next h k m o l = record { lies = record { starts = refl; ends = h; within = k }; moves = m; opens = o; lands = l }
 
   stop-cut : (error : Error) (left : ℕ) → from ≤ left → left ≤ length doc → PlainError error → Here (stop error from left)
   unfolding stop
@@ -133,8 +146,8 @@ module _ (doc : List ℕ) (from : ℕ) where
         first-cases Here (textFound doc from) _ _
         (λ p e. let t = found-has FirstFound.At _ _ (text-gives doc from) (textFound doc from) p refl e in
         let o : from ≡ p → ⊥ = λ z. here (rw z (t .among)) in
-        whole-cut Shape.Text p (phaseAt doc p) (t .after) (omega (arith, t)) (omega (arith, t .after)) (phase-lands doc p (t .among)))
-        (whole-cut Shape.LastText (length doc) Phase.Done h (omega arith) (omega arith) tt)
+        whole-cut Shape.Text p (phaseAt doc p) (t .after) (omega (arith, t)) (omega (arith, t .after)) tt (phase-lands doc p (t .among)))
+        (whole-cut Shape.LastText (length doc) Phase.Done h (omega arith) (omega arith) tt tt)
       where
         here : Among textEnds (getD doc from 0) → ⊥
         here (inl e) = l e
@@ -147,9 +160,9 @@ module _ (doc : List ℕ) (from : ℕ) where
         first-cases Here (referenceFound doc from) _ _
         (λ p e. let t = found-has FirstFound.At _ _ (reference-gives doc from) (referenceFound doc from) p refl e in
         pick-cases Here (eqb (getD doc p 0) semicolon) _ _
-        (λ _. whole-cut Shape.GeneralRef (p + 1) Phase.InsideText (omega (arith, t)) (omega (arith, t)) (omega (arith, t)) tt)
-        (λ n. whole-cut Shape.Dangling p (phaseAt doc p) (omega (arith, t)) (omega (arith, t)) (omega (arith, t)) (phase-lands doc p (not-first (eqb-false _ _ n) (t .among)))))
-        (whole-cut Shape.Dangling (length doc) Phase.Done h (omega arith) (omega arith) tt)
+        (λ _. whole-cut Shape.GeneralRef (p + 1) Phase.InsideText (omega (arith, t)) (omega (arith, t)) (omega (arith, t)) tt tt)
+        (λ n. whole-cut Shape.Dangling p (phaseAt doc p) (omega (arith, t)) (omega (arith, t)) (omega (arith, t)) tt (phase-lands doc p (not-first (eqb-false _ _ n) (t .among)))))
+        (whole-cut Shape.Dangling (length doc) Phase.Done h (omega arith) (omega arith) tt tt)
       where
         not-first : {b : ℕ} → (b ≡ semicolon → ⊥) → Among referenceEnds b → Among textEnds b
         not-first n (inl e) = absurd (n e)
@@ -157,8 +170,8 @@ module _ (doc : List ℕ) (from : ℕ) where
         not-first n (inr (inr (inl e))) = inl e
 
     -- a piece up to the byte at p, which was found
-    closed : (shape : Shape) (p : ℕ) → fewest shape ≤ 1 → (from ≤ p) × (p < length doc) → Here (whole shape from (p + 1) Phase.InsideText)
-    closed shape p f t = whole-cut shape (p + 1) Phase.InsideText (omega (arith, t)) (omega (arith, t)) (omega (arith, t, f)) tt
+    closed : (shape : Shape) (p : ℕ) → from + fewest shape ≤ p + 1 → p < length doc → Opens doc from shape → Here (whole shape from (p + 1) Phase.InsideText)
+    closed shape p m t o = whole-cut shape (p + 1) Phase.InsideText (omega arith) (omega arith) m o tt
 
     unclosed : (error : Error) → PlainError error → Here (stop error from (length doc))
     unclosed error p = stop-cut error (length doc) h (omega arith) p
@@ -166,56 +179,61 @@ module _ (doc : List ℕ) (from : ℕ) where
     kept : (error : Error) → PlainError error → Here (stop error from from)
     kept error p = stop-cut error from (omega arith) h p
 
-    tag-cut : (shape : Shape) → fewest shape ≤ 1 → Here (cutTag doc from shape)
-    unfolding cutTag
-    tag-cut shape f =
-        tag-cases Here (elementFound doc from) _ _
-        (λ p e. let t = found-has TagFound.At _ _ (element-gives doc from) (elementFound doc from) p refl e in closed shape p f (omega (arith, t)))
-        (unclosed _ (unclosed-tag (elementFound doc from)))
+    -- markup, at a `<`
+    module _ (l : getD doc from 0 ≡ lt) where
+      -- its `>` stands behind the `<`
+      tag-cut : (shape : Shape) → fewest shape ≤ 2 → Opens doc from shape → Here (cutTag doc from shape)
+      unfolding cutTag
+      tag-cut shape f o =
+          tag-cases Here (elementFound doc from) _ _
+          (λ p e. let t = found-has TagFound.At _ _ (element-gives doc from) (elementFound doc from) p refl e in
+          let apart : from ≡ p → ⊥ = λ z. omega (arith, t .closes, ap (λ (k : ℕ). getD doc k 0) z) in
+          closed shape p (omega (arith, t .after)) (t .within) o)
+          (unclosed _ (unclosed-tag (elementFound doc from)))
 
-    marked-cut : (found : MarksFound) (shape : Shape) (error : Error) → fewest shape ≤ 1 → PlainError error
-        → ((p : ℕ) → found ≡ MarksFound.At p → (from ≤ p) × (p < length doc)) → Here (cutMarked doc from found shape error)
-    unfolding cutMarked
-    marked-cut found shape error f q w = marks-cases Here found _ _ (λ p e. closed shape p f (w p e)) (unclosed error q)
+      marked-cut : (found : MarksFound) (shape : Shape) (error : Error) → fewest shape ≤ 1 → Opens doc from shape → PlainError error
+          → ((p : ℕ) → found ≡ MarksFound.At p → (from ≤ p) × (p < length doc)) → Here (cutMarked doc from found shape error)
+      unfolding cutMarked
+      marked-cut found shape error f o q w = marks-cases Here found _ _ (λ p e. closed shape p (omega (arith, w p e .0)) (w p e .1) o) (unclosed error q)
 
-    bang-cut : (third : ℕ) → Here (cutBang doc from third)
-    unfolding cutBang
-    bang-cut third =
-        pick-cases Here (eqb third openBracket) _ _
-        (λ _. marked-cut (cdataFound doc from) Shape.CData Error.UnclosedCData (omega arith) (omega arith)
-        (λ p e. let t = found-has MarksFound.At _ _ (cdata-gives doc from) (cdataFound doc from) p refl e in omega (arith, t)))
-        (λ _. pick-cases Here (eqb third hyphen) _ _
-        (λ _. marked-cut (commentFound doc from) Shape.Comment Error.UnclosedComment (omega arith) (omega arith)
-        (λ p e. let t = found-has MarksFound.At _ _ (comment-gives doc from) (commentFound doc from) p refl e in omega (arith, t)))
-        (λ _. pick-cases Here (eqb third upperD) _ _
-        (λ _. kept Error.DocType (omega arith))
-        (λ _. pick-cases Here (eqb third lowerD) _ _
-        (λ _. kept Error.DocType (omega arith))
-        (λ _. kept Error.InvalidBangMarkup (omega arith)))))
+      bang-cut : (third : ℕ) → Here (cutBang doc from third)
+      unfolding cutBang
+      bang-cut third =
+          pick-cases Here (eqb third openBracket) _ _
+          (λ _. marked-cut (cdataFound doc from) Shape.CData Error.UnclosedCData (omega arith) l (omega arith)
+          (λ p e. let t = found-has MarksFound.At _ _ (cdata-gives doc from) (cdataFound doc from) p refl e in omega (arith, t)))
+          (λ _. pick-cases Here (eqb third hyphen) _ _
+          (λ _. marked-cut (commentFound doc from) Shape.Comment Error.UnclosedComment (omega arith) l (omega arith)
+          (λ p e. let t = found-has MarksFound.At _ _ (comment-gives doc from) (commentFound doc from) p refl e in omega (arith, t)))
+          (λ _. pick-cases Here (eqb third upperD) _ _
+          (λ _. kept Error.DocType (omega arith))
+          (λ _. pick-cases Here (eqb third lowerD) _ _
+          (λ _. kept Error.DocType (omega arith))
+          (λ _. kept Error.InvalidBangMarkup (omega arith)))))
 
-    question-cut : Here (cutQuestion doc from)
-    unfolding cutQuestion
-    question-cut =
-        marks-cases Here (piFound doc from) _ _
-        (λ p e. let t = found-has MarksFound.At _ _ (pi-gives doc from) (piFound doc from) p refl e in closed Shape.QuestionMark p (omega arith) (omega (arith, t)))
-        (unclosed _ (unclosed-question doc from))
+      question-cut : Here (cutQuestion doc from)
+      unfolding cutQuestion
+      question-cut =
+          marks-cases Here (piFound doc from) _ _
+          (λ p e. let t = found-has MarksFound.At _ _ (pi-gives doc from) (piFound doc from) p refl e in closed Shape.QuestionMark p (omega (arith, t)) (omega (arith, t)) l)
+          (unclosed _ (unclosed-question doc from))
 
-    pub markup-cut : Here (cutMarkup doc from)
-    unfolding cutMarkup
-    markup-cut =
-        pick-cases Here (leb (length doc) (from + 1)) _ _
-        (λ _. kept Error.UnclosedTag (omega arith))
-        (λ _. pick-cases Here (eqb (getD doc (from + 1) 0) bang) _ _
-        (λ _. bang-cut (getD doc (from + 2) 0))
-        (λ _. pick-cases Here (eqb (getD doc (from + 1) 0) question) _ _
-        (λ _. question-cut)
-        (λ _. pick-cases Here (eqb (getD doc (from + 1) 0) slash) _ _ (λ _. tag-cut Shape.End (omega arith)) (λ _. tag-cut Shape.Start (omega arith)))))
+      pub markup-cut : Here (cutMarkup doc from)
+      unfolding cutMarkup
+      markup-cut =
+          pick-cases Here (leb (length doc) (from + 1)) _ _
+          (λ _. kept Error.UnclosedTag (omega arith))
+          (λ _. pick-cases Here (eqb (getD doc (from + 1) 0) bang) _ _
+          (λ _. bang-cut (getD doc (from + 2) 0))
+          (λ _. pick-cases Here (eqb (getD doc (from + 1) 0) question) _ _
+          (λ _. question-cut)
+          (λ _. pick-cases Here (eqb (getD doc (from + 1) 0) slash) _ _ (λ _. tag-cut Shape.End (omega arith) l) (λ _. tag-cut Shape.Start (omega arith) l))))
 
     pub next-cut : Here (cutNext doc from)
     unfolding cutNext
     next-cut =
         pick-cases Here (eqb (getD doc from 0) lt) _ _
-        (λ _. markup-cut)
+        (λ l. markup-cut (eqb-true _ _ l))
         (λ l. pick-cases Here (eqb (getD doc from 0) amp) _ _
         (λ a. ref-cut (eqb-true _ _ a))
         (λ a. text-cut (eqb-false _ _ l) (eqb-false _ _ a)))

@@ -5,9 +5,10 @@ use mathlib.Core.Path.{_≡_, refl, sym, ap, _∙_}
 use mathlib.Core.List.{List}
 use mathlib.Core.Bool.{true, false}
 use native.Mathlib.Omega.{arith}
-use lib.ListN.{length, drop}
+use lib.ListN.{length, drop, getD}
 use lib.Dec.{eqb, leb, ltb}
 use borrow.Author.Tests.{eq-eqb, eqb-true, eqb-false, ltb-true, lt-ltb}
+use Rattle.ground.specs.Bytes.{lt}
 use Rattle.ground.specs.Equal.{begins, same}
 use Rattle.ground.specs.Part.{part}
 use Rattle.ground.proofs.Choices.{pick-cases, clash, both, not-true, not-false}
@@ -34,7 +35,7 @@ use Rattle.state.specs.Limits.{capacity}
 use Rattle.state.specs.Values.{kindNumber, valuesOf}
 use Rattle.state.specs.Make.{event, moved, withDepth, told, ended, refused, stopped}
 use Rattle.state.proofs.Numbers.{no-number}
-use Rattle.state.proofs.Spans.{inner-lies}
+use Rattle.state.proofs.Spans.{inner-lies, fits}
 use Rattle.emit.specs.Text.{textContent, emitText, emitLastText}
 use Rattle.emit.specs.Reference.{emitRef, emitDangling}
 use Rattle.emit.specs.Bang.{commentOpener, cdataOpener, bangEvent, checkedComment, emitComment, emitCData}
@@ -47,8 +48,8 @@ use Rattle.reader.specs.declared.piece.Cut.{Cut}
 use Rattle.reader.specs.Names.{latest, nameOf, bytes}
 use Rattle.reader.specs.Sound.{inPlaceIn, inPlace, sound}
 use Rattle.reader.specs.Step.{emittedAs, emitted, checked, taken, skipped, stepText, bom, begin, stepIn, stepPhase, step}
-use Rattle.reader.proofs.Cuts.{fewest, Lands, Plain, PlainError, Lies, CutOff, CutAt, next-cut, markup-cut, ref-cut}
-use Rattle.reader.proofs.States.{sound-true, ref-at}
+use Rattle.reader.proofs.Cuts.{fewest, Opens, Lands, Plain, PlainError, Lies, CutOff, CutAt, next-cut, markup-cut, ref-cut}
+use Rattle.reader.proofs.States.{sound-true, markup-at, ref-at}
 
 -- ---- what there is to see
 
@@ -73,6 +74,8 @@ pub record Tagged (doc : List ℕ) (s : Step) : Type 0 where
   pub ordered : valuesOf (s .answer) .content .from ≤ valuesOf (s .answer) .content .to
   pub within : valuesOf (s .answer) .content .to ≤ s .reader .position .0
   pub named : valuesOf (s .answer) .name ≡ nameLen (bytes doc (valuesOf (s .answer) .content))
+  pub opens : getD doc (valuesOf (s .answer) .piece .from) 0 ≡ lt
+  pub starts : valuesOf (s .answer) .content .from ≡ valuesOf (s .answer) .piece .from + 1
   pub expands : slashed doc (valuesOf (s .answer) .piece) ≡ true → s .reader .phase ≡ Phase.InsideEmpty
 
 -- what a call does to the names, of which there is room for `cap`, and of which `last` is the latest
@@ -345,16 +348,17 @@ module _ (doc : List ℕ) (cap : ℕ) (last : Span) (r : Reader) (piece : Span) 
     unfolding moved
     to-empty b d h = record { in-place = lt-ltb 0 (b .depth .0) (omega arith); falls = omega (arith, f, some) }
 
-    -- where there is no room for the name
-    module _ (full : Turn (stopped r Error.NameStackFull (at (piece .from)) (span (piece .from) (piece .from)))) where
+    -- a tag that begins with `<` and has a byte more, and what is answered where there is no room for its name
+    module _ (bracket : getD doc (piece .from) 0 ≡ lt) (two : piece .from + 2 ≤ piece .to) (full : Turn (stopped r Error.NameStackFull (at (piece .from)) (span (piece .from) (piece .from)))) where
       module _ (content : Span) (next : Phase) (n : (b : Reader) → b .depth .0 ≡ r .depth .0 + 1 → Next doc r b (piece .to) next)
-          (o : content .from ≤ content .to) (w : content .to ≤ piece .to) (x : slashed doc piece ≡ true → next ≡ Phase.InsideEmpty) where
+          (first : content .from ≡ piece .from + 1) (o : content .from ≤ content .to) (w : content .to ≤ piece .to) (x : slashed doc piece ≡ true → next ≡ Phase.InsideEmpty) where
         -- b has one name more
         added-turn : (b : Reader) → Like r b → b .depth .0 ≡ r .depth .0 + 1 → r .depth .0 < cap
             → Turn (told b (event Kind.Start piece content (nameLen (bytes doc content))) next)
         unfolding told moved
         added-turn b l d room =
-            told-turn b Kind.Start content _ next l (n b d) (λ e. absurd (omega arith)) (opens refl room d (record { ordered = o; within = w; named = refl; expands = x }))
+            told-turn b Kind.Start content _ next l (n b d) (λ e. absurd (omega arith))
+            (opens refl room d (record { ordered = o; within = w; named = refl; opens = bracket; starts = first; expands = x }))
 
         opened-turn : Turn (opening r (depthOf cap) (tag doc Kind.Start piece content) next)
         unfolding opening tag withDepth
@@ -369,10 +373,14 @@ module _ (doc : List ℕ) (cap : ℕ) (last : Span) (r : Reader) (piece : Span) 
           pick-cases Turn (slashed doc piece) _ _
           (λ e. pick-cases Turn (r .settings .«expand_empty_elements») _ _
           (λ _. let i = inner-lies piece 1 2 (f .ordered) in
-          opened-turn _ Phase.InsideEmpty (λ b d. to-empty b d (slashed-long doc piece e)) (i .0) (i .1) (λ _. refl))
+          let long = slashed-long doc piece e in
+          opened-turn _ Phase.InsideEmpty (λ b d. to-empty b d long) (inner-first 2 (omega arith)) (i .0) (i .1) (λ _. refl))
           (λ _. plain-turn Kind.Empty _ _ (omega arith)))
           (λ e. let i = inner-lies piece 1 1 (f .ordered) in
-          opened-turn _ Phase.InsideText (λ b d. to-text some b) (i .0) (i .1) (λ t. clash _ t e))
+          opened-turn _ Phase.InsideText (λ b d. to-text some b) (inner-first 1 (omega arith)) (i .0) (i .1) (λ t. clash _ t e))
+        where
+          inner-first : (back : ℕ) → piece .from + 1 + back ≤ piece .to → inner piece 1 back .from ≡ piece .from + 1
+          inner-first back h = ap (λ (x : Span). x .from) (sym (fits piece 1 back (omega arith) (omega arith) (omega arith)))
 
 -- ---- the call
 
@@ -413,24 +421,24 @@ module _ (doc : List ℕ) (cap : ℕ) (last : Span) (r : Reader) where
     some : piece .from + 1 ≤ piece .to → Some doc r piece
     some m = record { has = omega arith; near = near }
 
-    emitted-turn : (shape : Shape) (next : Phase) → piece .from + fewest shape ≤ piece .to → Lands doc (piece .to) next
+    emitted-turn : (shape : Shape) (next : Phase) → piece .from + fewest shape ≤ piece .to → Opens doc (piece .from) shape → Lands doc (piece .to) next
         → Turns (emittedAs doc r last (depthOf cap) shape piece next)
-    emitted-turn Shape.Text next m l = text-turn doc cap last r piece f (some m) next l
-    emitted-turn Shape.LastText next m l = last-turn doc cap last r piece f
-    emitted-turn Shape.GeneralRef next m l = ref-turn doc cap last r piece f (some m)
-    emitted-turn Shape.Dangling next m l = dangling-turn doc cap last r piece f (some m) next l
-    emitted-turn Shape.Comment next m l = comment-turn doc cap last r piece f (some m)
-    emitted-turn Shape.CData next m l = cdata-turn doc cap last r piece f (some m)
-    emitted-turn Shape.QuestionMark next m l = question-turn doc cap last r piece f (some m)
-    emitted-turn Shape.End next m l = close-turn doc cap last r piece f (some m)
-    emitted-turn Shape.Start next m l = start-turn doc cap last r piece f (some m) (full-turn piece f)
+    emitted-turn Shape.Text next m o l = text-turn doc cap last r piece f (some m) next l
+    emitted-turn Shape.LastText next m o l = last-turn doc cap last r piece f
+    emitted-turn Shape.GeneralRef next m o l = ref-turn doc cap last r piece f (some m)
+    emitted-turn Shape.Dangling next m o l = dangling-turn doc cap last r piece f (some m) next l
+    emitted-turn Shape.Comment next m o l = comment-turn doc cap last r piece f (some m)
+    emitted-turn Shape.CData next m o l = cdata-turn doc cap last r piece f (some m)
+    emitted-turn Shape.QuestionMark next m o l = question-turn doc cap last r piece f (some m)
+    emitted-turn Shape.End next m o l = close-turn doc cap last r piece f (some m)
+    emitted-turn Shape.Start next m o l = start-turn doc cap last r piece f (some (omega arith)) o m (full-turn piece f)
 
   piece-turn : (from : ℕ) (p : Piece) → From doc r from → CutOff doc from p → Turns (checked doc r last (depthOf cap) p)
   unfolding checked emitted
   piece-turn from p f c =
       let fits : Fits doc r (p .span) = lies-fits doc r from _ f (c .lies) in
       utf8-cases Turns (check (p .span .from) (bytes doc (p .span))) _ _
-      (emitted-turn (p .span) fits (rw (c .lies .starts) (f .near)) (p .shape) (p .next) (rw (c .lies .starts) (c .moves)) (c .lands))
+      (emitted-turn (p .span) fits (rw (c .lies .starts) (f .near)) (p .shape) (p .next) (rw (c .lies .starts) (c .moves)) (rw (c .lies .starts) (c .opens)) (c .lands))
       (λ _. stopped-quiet doc cap last r (p .span) fits Error.Encoding _ (omega arith))
 
   taken-turn : (from : ℕ) (c : Cut) → From doc r from → CutAt doc from c → Turns (taken doc r last (depthOf cap) c)
@@ -483,7 +491,7 @@ module _ (doc : List ℕ) (cap : ℕ) (last : Span) (r : Reader) where
     phase-turn : (p : Phase) → r .phase ≡ p → Turns (stepIn doc r last (depthOf cap) p)
     phase-turn Phase.Init e = text-from (begin doc) (from-start e)
     phase-turn Phase.InsideText e = text-from (r .position .0) (stands Phase.InsideText e (omega arith))
-    phase-turn Phase.InsideMarkup e = taken-turn _ _ (stands Phase.InsideMarkup e (omega arith)) (markup-cut doc (r .position .0) in-doc)
+    phase-turn Phase.InsideMarkup e = taken-turn _ _ (stands Phase.InsideMarkup e (omega arith)) (markup-cut doc (r .position .0) in-doc (markup-at doc r ok e))
     phase-turn Phase.InsideRef e = taken-turn _ _ (stands Phase.InsideRef e (omega arith)) (ref-cut doc (r .position .0) in-doc (ref-at doc r ok e))
     phase-turn Phase.InsideEmpty e = expanded-turn e
     phase-turn Phase.Done e = ended-quiet doc cap last r _ (record { after = omega arith; ordered = omega arith; within = in-doc })

@@ -154,7 +154,7 @@ stands-in doc i k e h = elim (decLt i (length doc)) [
 ]
 
 module _ (doc : List ℕ) (r : Reader) (ok : inPlace doc r ≡ true) where
-  markup-at : r .phase ≡ Phase.InsideMarkup → getD doc (r .position .0) 0 ≡ lt
+  pub markup-at : r .phase ≡ Phase.InsideMarkup → getD doc (r .position .0) 0 ≡ lt
   unfolding inPlace
   markup-at p = eqb-true _ _ (simp p at ok)
 
