@@ -1,20 +1,20 @@
 -- DEMAND 3: no opening is lost and none is closed twice. Any number of calls from a fresh reader, over any document within the limit, any lent stack and
 -- unchanged bytes, stack and settings. A clause that speaks of end checks or of unmatched ends says so; the others hold with any settings.
 -- Assumes nothing.
-use Prim.Native.Nat.{ℕ, zero, suc, _+_, _-_, _≤_, _<_}
+use Prim.Native.Nat.{ℕ, zero, suc, _+_, _≤_}
 use mathlib.Core.Path.{_≡_, refl, sym, ap, _∙_}
 use mathlib.Core.List.{List, [], _∷_}
 use mathlib.Core.Bool.{true, false}
 use mathlib.Core.Logic.{_⊎_, inl, inr}
 use native.Mathlib.Omega.{arith}
-use lib.ListN.{length, getD, take, drop, take-append-drop}
+use lib.ListN.{length, getD, take}
 use borrow.Author.Tests.{ne-eqb, eqb-false}
 use Rattle.ground.specs.Bytes.{lt}
 use Rattle.ground.specs.Equal.{begins}
 use Rattle.ground.specs.Part.{part}
 use Rattle.ground.proofs.Choices.{clash, pick-cases}
-use Rattle.ground.proofs.Equal.{begins-with}
-use Rattle.ground.proofs.Lists.{drop-next, part-in, part-first}
+use Rattle.ground.proofs.Equal.{begins-first}
+use Rattle.ground.proofs.Lists.{part-first, part-next}
 use Rattle.white.specs.White.{nameLen}
 use Rattle.state.specs.declared.config.Config.{Config}
 use Rattle.state.specs.declared.answer.Kind.{Kind}
@@ -30,17 +30,6 @@ use Rattle.demands.specs.Answers.{isStart, isEnd, isMismatch, isUnmatche
 use Rattle.demands.specs.Open.{entries, opened, newest, leftOpen, strays}
 use Rattle.demands.proofs.Held.{other-writes, entries-length, held-turn, run-held}
 use Rattle.demands.proofs.Clauses.{Closing, Straying, tally, does, setting, at-start, tag-at-start, at-no-start, at-end, at-mismatch, at-unmatched, at-others}
-
--- the first byte of a span, and the others
-part-next : (s : List ℕ) (from to : ℕ) → from < to → to ≤ length s → part s from to ≡ getD s from 0 ∷ part s (from + 1) to
-part-next s from to h k =
-    let e : to - from ≡ suc (to - (from + 1)) = omega arith in
-    part-in s from to (omega arith) k
-    ∙ rw (e, drop-next s from (omega arith)) (ap (λ (bs : List ℕ). getD s from 0 ∷ bs) (sym (part-in s (from + 1) to (omega arith) k)))
-
--- bytes begin with the first of them and some of the others
-begins-first : (b n : ℕ) (bs : List ℕ) → begins (b ∷ bs) (b ∷ take n bs) ≡ true
-begins-first b n bs = ap (λ (xs : List ℕ). begins (b ∷ xs) (b ∷ take n bs)) (sym (take-append-drop n bs)) ∙ begins-with (b ∷ take n bs) (drop n bs)
 
 module _ (doc stack : List ℕ) (c : Config) (short : length doc ≤ longest) (n : ℕ) where
   -- after n calls, after one more, and what that one answers

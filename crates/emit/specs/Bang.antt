@@ -1,7 +1,8 @@
 -- Comments and CDATA (document 01, "Steps").
-use Prim.Native.Nat.{ℕ, _+_, _-_}
+use Prim.Native.Nat.{ℕ, _+_, _-_, _≤_, _<_}
+use mathlib.Core.Path.{_≡_}
 use mathlib.Core.List.{List, [], _∷_}
-use lib.ListN.{drop}
+use lib.ListN.{getD, drop}
 use lib.Dec.{eqb, ltb}
 use Rattle.ground.specs.Choose.{pick}
 use Rattle.ground.specs.Bytes.{bang, hyphen, lt, openBracket}
@@ -65,3 +66,16 @@ emitCData doc r piece =
     pick (begins (drop (piece .from) doc) cdataOpener)
     (bangEvent r Kind.CData piece (inner piece 9 3))
     (stopped r Error.UnclosedCData (at (piece .from)) piece)
+
+-- ---- 9 in words
+
+-- "a content `-` is followed by `-` (the closer's included)": one stands at k, a place of the content, and one right after it
+pub record HyphensAt (doc : List ℕ) (content : Span) (k : ℕ) : Type 0 where
+  pub after : content .from ≤ k
+  pub within : k < content .to
+  pub first : getD doc k 0 ≡ hyphen
+  pub second : getD doc (k + 1) 0 ≡ hyphen
+
+-- somewhere in the content
+abbrev pub TwoHyphens : List ℕ → Span → Type 0
+TwoHyphens doc content = (k : ℕ) × HyphensAt doc content k

@@ -6,7 +6,7 @@ use mathlib.Core.List.{List, [], _∷_, _++_, append-nil}
 use mathlib.Core.Bool.{Bool, true, false}
 use mathlib.Core.Logic.{_↔_}
 use native.Mathlib.Omega.{arith}
-use lib.ListN.{length, getD, drop, length-append, length-drop}
+use lib.ListN.{length, getD, take, drop, length-append, length-drop, take-append-drop}
 use lib.Dec.{eqb}
 use borrow.Author.Needs.{needs}
 use borrow.Author.Tests.{eq-eqb, ne-eqb, eqb-true}
@@ -81,6 +81,10 @@ pub begins-with : (ks rest : List ℕ) → begins (ks ++ rest) ks ≡ true
 unfolding begins
 begins-with [] rest = refl
 begins-with (k ∷ ks) rest = rw (eq-eqb k k refl) (begins-with ks rest)
+
+-- bytes begin with the first of them and some of the others
+pub begins-first : (b n : ℕ) (bs : List ℕ) → begins (b ∷ bs) (b ∷ take n bs) ≡ true
+begins-first b n bs = ap (λ (xs : List ℕ). begins (b ∷ xs) (b ∷ take n bs)) (sym (take-append-drop n bs)) ∙ begins-with (b ∷ take n bs) (drop n bs)
 
 -- the first list is the second and a rest
 pub begins-is : (bs ks : List ℕ) → (begins bs ks ≡ true) ↔ (bs ≡ ks ++ drop (length ks) bs)

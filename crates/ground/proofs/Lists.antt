@@ -24,6 +24,13 @@ drop-done a i h = drop-of-length-le a h
 pub byte-past : (a : List ℕ) (i : ℕ) → length a ≤ i → 0 ≡ getD a i 0
 byte-past a i h = sym (List·getD-eq-default a 0 h)
 
+-- so a byte other than 0 stands before the end
+pub stands-in : (a : List ℕ) (i k : ℕ) → getD a i 0 ≡ k → 0 < k → i < length a
+stands-in a i k e h = elim (decLt i (length a)) [
+  | yes g ↦ g
+  | no g ↦ let z : 0 ≡ getD a i 0 = byte-past a i (omega arith) in omega arith
+]
+
 -- the part that starts at the end is empty
 pub at-end : (s : List ℕ) (n : ℕ) → take n (drop (length s) s) ≡ []
 at-end s n = ap (take n) (drop-length s) ∙ take-nil n
@@ -77,3 +84,10 @@ part-first s from to n h k l =
     part-in s from (from + n) (omega arith) (omega arith)
     ∙ ap (λ (i : ℕ). take i (drop from s)) e
     ∙ sym (ap (take n) (part-in s from to h k) ∙ take-take n (to - from) (drop from s) l)
+
+-- the first byte of a span, and the others
+pub part-next : (s : List ℕ) (from to : ℕ) → from < to → to ≤ length s → part s from to ≡ getD s from 0 ∷ part s (from + 1) to
+part-next s from to h k =
+    let e : to - from ≡ suc (to - (from + 1)) = omega arith in
+    part-in s from to (omega arith) k
+    ∙ rw (e, drop-next s from (omega arith)) (ap (λ (bs : List ℕ). getD s from 0 ∷ bs) (sym (part-in s (from + 1) to (omega arith) k)))

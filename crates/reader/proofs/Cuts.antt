@@ -12,6 +12,7 @@ use Rattle.ground.specs.Bytes.{amp, bang, hyphen, lowerD, lt, openBracket, ques
 use Rattle.ground.specs.Equal.{begins}
 use Rattle.ground.proofs.Choices.{pick-cases}
 use Rattle.ground.proofs.First.{found-has}
+use Rattle.ground.proofs.Lists.{stands-in}
 use Rattle.white.specs.White.{isWhite}
 use Rattle.parser.specs.Element.{elementFound}
 use Rattle.parser.specs.First.{textFound, referenceFound, Among, textEnds, referenceEnds}
@@ -33,7 +34,6 @@ use Rattle.reader.specs.declared.piece.Shape.{Shape}
 use Rattle.reader.specs.declared.piece.Piece.{Piece}
 use Rattle.reader.specs.declared.piece.Cut.{Cut}
 use Rattle.reader.specs.Cut.{whole, stop, phaseAt, cutText, cutRef, unclosedTag, cutTag, cutMarked, cutBang, cutQuestion, cutMarkup, cutNext}
-use Rattle.reader.proofs.States.{stands-in}
 
 -- how many bytes a piece has at least
 abbrev pub fewest : Shape → ℕ

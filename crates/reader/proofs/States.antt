@@ -4,13 +4,12 @@ use mathlib.Core.Path.{_≡_, sym, ap, _∙_}
 use mathlib.Core.List.{List}
 use mathlib.Core.Bool.{Bool, true, false}
 use native.Mathlib.Omega.{arith}
-use native.Mathlib.Decide.{decLt}
 use lib.ListN.{length, getD}
 use borrow.Author.Needs.{needs}
 use borrow.Author.Tests.{eq-eqb, ne-eqb, le-leb, lt-leb, eqb-true, leb-true}
 use Rattle.ground.specs.Bytes.{amp, lt}
 use Rattle.ground.proofs.Choices.{both, pick-bool}
-use Rattle.ground.proofs.Lists.{byte-past}
+use Rattle.ground.proofs.Lists.{stands-in}
 use Rattle.state.specs.declared.place.Depth.{Depth}
 use Rattle.state.specs.declared.place.Span.{Span}
 use Rattle.state.specs.declared.run.Phase.{Phase}
@@ -145,13 +144,6 @@ module _ (doc stack : List ℕ) (r : Reader) where
       )
 
 -- ---- where the phases stand
-
--- a byte other than 0 stands in the document
-pub stands-in : (doc : List ℕ) (i k : ℕ) → getD doc i 0 ≡ k → 0 < k → i < length doc
-stands-in doc i k e h = elim (decLt i (length doc)) [
-  | yes g ↦ g
-  | no g ↦ let z : 0 ≡ getD doc i 0 = byte-past doc i (omega arith) in omega arith
-]
 
 module _ (doc : List ℕ) (r : Reader) (ok : inPlace doc r ≡ true) where
   pub markup-at : r .phase ≡ Phase.InsideMarkup → getD doc (r .position .0) 0 ≡ lt
