@@ -7,10 +7,12 @@ use crate::says::say_values;
 use lines::line::bytes;
 use lines::line::lent;
 use lines::line::number;
+use lines::line::put;
 use lines::line::say;
 use lines::line::values;
 use lines::line::word;
 use lines::settings::settings;
+use lines::words::number_of;
 use reader::advance;
 use reader::content;
 use state::answer::Kind;
@@ -29,12 +31,11 @@ ghost use lib.ListN.{length};
 pub fn answer(text: &[u8]) {
     let end = word(text, 0);
     let form = ground::part(text, 0, end);
-    if check::same(form, b"run") {
-        run_case(text, end);
-    } else if check::same(form, b"state") {
-        state_case(text, end);
-    } else if check::same(form, b"content") {
-        content_case(text, end);
+    match number_of(form, b"run;state;content") {
+        0 => run_case(text, end),
+        1 => state_case(text, end),
+        2 => content_case(text, end),
+        _ => {}
     }
 }
 
@@ -63,25 +64,21 @@ fn calls(document: &[u8], stack: &mut [usize], settings: Config) {
     }
 }
 
-// Calls until end of file, and once more.
+// Calls until end of file, which comes after as many calls as the document has bytes and two more, or before, and once more.
 fn all(fresh: Reader, document: &[u8], stack: &mut [usize]) {
-    let last = to_end(fresh, document, stack);
-    call(last, document, stack);
-}
-
-// Calls until end of file, which comes after as many calls as the document has bytes and two more, or before. Answers the reader that is left.
-fn to_end(fresh: Reader, document: &[u8], stack: &mut [usize]) -> Reader {
     let mut reader = fresh;
-    let mut left = document.len() + 2;
+    let mut ended = false;
+    let mut left = document.len() + 3;
     while 0 < left {
         left -= 1;
         let turn = call(reader, document, stack);
         reader = turn.reader;
-        if turn.ended {
+        say_names(reader, stack);
+        if ended {
             break;
         }
+        ended = turn.ended;
     }
-    reader
 }
 
 // A reader after a call, and whether the call answered end of file.
@@ -90,13 +87,13 @@ struct Turn {
     ended: bool,
 }
 
+// One call, and its answer written.
 fn call(reader: Reader, document: &[u8], stack: &mut [usize]) -> Turn {
     let step = advance(reader, document, stack);
     let after = step.reader;
     let answer = step.answer;
     let values = answer.values();
     say_values(values);
-    say_names(after, stack);
     let eof = Kind::Eof;
     Turn {
         reader: after,
@@ -139,26 +136,20 @@ fn filled(text: &[u8], from: usize) -> [usize; 8200]
 
 // The phase by its word, which stands after a space.
 fn phase(name: &[u8]) -> Phase {
-    if check::same(name, b" init") {
-        Phase::Init
-    } else if check::same(name, b" text") {
-        Phase::InsideText
-    } else if check::same(name, b" markup") {
-        Phase::InsideMarkup
-    } else if check::same(name, b" ref") {
-        Phase::InsideRef
-    } else if check::same(name, b" empty") {
-        Phase::InsideEmpty
-    } else {
-        Phase::Done
+    match number_of(name, b" init; text; markup; ref; empty") {
+        0 => Phase::Init,
+        1 => Phase::InsideText,
+        2 => Phase::InsideMarkup,
+        3 => Phase::InsideRef,
+        4 => Phase::InsideEmpty,
+        _ => Phase::Done,
     }
 }
 
+// The call, and all that it leaves.
 fn one_call(reader: Reader, document: &[u8], stack: &mut [usize]) {
-    let step = advance(reader, document, stack);
-    let after = step.reader;
-    let answer = step.answer;
-    say_values(answer.values());
+    let turn = call(reader, document, stack);
+    let after = turn.reader;
     say_reader(after);
     say_slots(stack);
 }
@@ -175,5 +166,5 @@ fn content_case(text: &[u8], from: usize) {
         to: end.value,
     };
     say(content(&space[..n], span));
-    say(b"\n");
+    put(b'\n');
 }

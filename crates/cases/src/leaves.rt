@@ -3,7 +3,10 @@ use lines::line::bytes;
 use lines::line::number;
 use lines::line::say;
 use lines::line::say_number;
+use lines::line::say_numbers;
 use lines::line::word;
+use lines::words::number_of;
+use lines::words::say_nth;
 
 // Writes the answer behind the line, if it names a function.
 pub fn answer(text: &[u8]) {
@@ -15,59 +18,54 @@ pub fn answer(text: &[u8]) {
     let third = word(text, second);
     let mut space = io::buffer();
     let n = bytes(text, third, &mut space);
-    let s = &space[..n];
     let mut room = io::buffer();
     let m = bytes(ground::part(text, 0, third), second, &mut room);
-    bounds(name, s, from.value, to.value);
-    compares(name, s, from.value, &room[..m]);
-    scans(name, s, from.value);
+    call(
+        function(name),
+        &space[..n],
+        from.value,
+        to.value,
+        &room[..m],
+    );
 }
 
-// The functions over a span or a byte.
-fn bounds(name: &[u8], s: &[u8], from: usize, to: usize) {
-    if check::same(name, b"part") {
-        say_part(s, from, to);
-    } else if check::same(name, b"byte_at") {
-        say_number(b" = ", ground::byte_at(s, from) as usize);
-    } else if check::same(name, b"is_whitespace") {
-        say_white(s, from);
-    } else if check::same(name, b"name_len") {
-        say_number(b" = ", white::name_len(s, from, to));
-    } else if check::same(name, b"trim_end") {
-        say_number(b" = ", white::trim_end(s, from, to));
-    } else if check::same(name, b"trim_start") {
-        say_number(b" = ", white::trim_start(s, from, to));
-    } else if check::same(name, b"utf8") {
-        say_utf8(utf8::check(s, from, to));
+// The number of a function, as `call` has them; that of none of them for any other name.
+fn function(name: &[u8]) -> usize {
+    number_of(
+        name,
+        b"part;byte_at;is_whitespace;name_len;trim_end;trim_start;utf8;starts_with;same;element;pi;comment;cdata;text;reference;pair",
+    )
+}
+
+// Calls a function on bytes and numbers. Those that compare with other bytes have them where the second number would stand.
+fn call(function: usize, s: &[u8], from: usize, to: usize, other: &[u8]) {
+    match function {
+        0 => say_part(s, from, to),
+        1 => say_value(ground::byte_at(s, from) as usize),
+        2 => say_white(s, from),
+        3 => say_value(white::name_len(s, from, to)),
+        4 => say_value(white::trim_end(s, from, to)),
+        5 => say_value(white::trim_start(s, from, to)),
+        6 => say_utf8(utf8::check(s, from, to)),
+        7 => say_truth(ground::starts_with(s, from, other)),
+        8 => say_truth(ground::same(s, other)),
+        9 => say_element(parser::element::element_end(s, from)),
+        10 => say_marks(parser::pi::pi_end(s, from)),
+        11 => say_marks(parser::comment::comment_end(s, from)),
+        12 => say_marks(parser::cdata::cdata_end(s, from)),
+        13 => say_first(parser::text::text_end(s, from)),
+        14 => say_first(parser::reference::reference_end(s, from)),
+        15 => say_first(parser::hyphens::pair_end(s, from)),
+        _ => {}
     }
 }
 
-// The functions that compare with other bytes, which stand where a second number would.
-fn compares(name: &[u8], s: &[u8], from: usize, other: &[u8]) {
-    if check::same(name, b"starts_with") {
-        say_truth(ground::starts_with(s, from, other));
-    } else if check::same(name, b"same") {
-        say_truth(ground::same(s, other));
-    }
+fn say_value(n: usize) {
+    say_number(b" = ", n);
 }
 
-// The scans.
-fn scans(name: &[u8], s: &[u8], from: usize) {
-    if check::same(name, b"element") {
-        say_element(parser::element::element_end(s, from));
-    } else if check::same(name, b"pi") {
-        say_marks(parser::pi::pi_end(s, from));
-    } else if check::same(name, b"comment") {
-        say_marks(parser::comment::comment_end(s, from));
-    } else if check::same(name, b"cdata") {
-        say_marks(parser::cdata::cdata_end(s, from));
-    } else if check::same(name, b"text") {
-        say_first(parser::text::text_end(s, from));
-    } else if check::same(name, b"reference") {
-        say_first(parser::reference::reference_end(s, from));
-    } else if check::same(name, b"pair") {
-        say_first(parser::hyphens::pair_end(s, from));
-    }
+fn say_at(at: usize) {
+    say_number(b" = at ", at);
 }
 
 fn say_part(s: &[u8], from: usize, to: usize) {
@@ -77,18 +75,13 @@ fn say_part(s: &[u8], from: usize, to: usize) {
 
 // Of the byte at `from`, if there is one.
 fn say_white(s: &[u8], from: usize) {
-    if s.len() <= from {
-        return;
+    if from < s.len() {
+        say_truth(white::is_whitespace(s[from]));
     }
-    say_truth(white::is_whitespace(s[from]));
 }
 
 fn say_truth(t: bool) {
-    if t {
-        say(b" = true");
-    } else {
-        say(b" = false");
-    }
+    say_nth(b" = false; = true", t as usize);
 }
 
 fn say_utf8(u: utf8::Utf8) {
@@ -100,28 +93,33 @@ fn say_utf8(u: utf8::Utf8) {
 
 fn say_element(f: parser::element::Found) {
     match f {
-        parser::element::Found::At(at) => say_number(b" = at ", at),
-        parser::element::Found::Open(q) => match q {
-            parser::element::ElementState::Outside => say(b" = open, outside"),
-            parser::element::ElementState::SingleQ => say(b" = open, within '"),
-            parser::element::ElementState::DoubleQ => say(b" = open, within \""),
-        },
+        parser::element::Found::At(at) => say_at(at),
+        parser::element::Found::Open(q) => say_open(q),
     }
+}
+
+fn say_open(q: parser::element::ElementState) {
+    let n = match q {
+        parser::element::ElementState::Outside => 0,
+        parser::element::ElementState::SingleQ => 1,
+        parser::element::ElementState::DoubleQ => 2,
+    };
+    say_nth(b" = open, outside; = open, within '; = open, within \"", n);
 }
 
 fn say_marks(f: parser::marks::Found) {
     match f {
-        parser::marks::Found::At(at) => say_number(b" = at ", at),
+        parser::marks::Found::At(at) => say_at(at),
         parser::marks::Found::Open(m) => {
-            say_number(b" = open, left ", m.left);
-            say_number(b", seen ", m.seen);
+            let numbers = [m.left, m.seen];
+            say_numbers(b" = open, left #, seen #", &numbers);
         }
     }
 }
 
 fn say_first(f: parser::first::Found) {
     match f {
-        parser::first::Found::At(at) => say_number(b" = at ", at),
+        parser::first::Found::At(at) => say_at(at),
         parser::first::Found::End => say(b" = end"),
     }
 }

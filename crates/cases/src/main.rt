@@ -39,9 +39,9 @@ fn answer(text: &[u8]) {
     line::say(text);
     if 4096 < text.len() {
         line::say(b" = too long\n");
-        return;
+    } else {
+        leaves::answer(text);
+        line::put(b'\n');
+        calls::answer(text);
     }
-    leaves::answer(text);
-    line::say(b"\n");
-    calls::answer(text);
 }

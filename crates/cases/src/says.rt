@@ -1,8 +1,10 @@
 // How an answer and what a call leaves are written.
+use lines::line::put;
+use lines::line::put_number;
 use lines::line::say;
-use lines::line::say_number;
+use lines::line::say_numbers;
 use lines::settings::say_settings;
-use lines::words::say_phase;
+use lines::words::say_place;
 use lines::words::say_word;
 use state::answer::Values;
 use state::place::Span;
@@ -11,47 +13,38 @@ use tally::Tallied;
 
 // An event's word and five numbers, or a refusal's number, place and spans.
 pub fn say_values(values: Values) {
+    let piece = values.piece;
+    let content = values.content;
+    let numbers = [piece.from, piece.to, content.from, content.to, values.name];
     say(b"  ");
     if values.kind == 0 {
         say_refusal(values);
-        return;
+    } else {
+        say_word(values.kind);
+        say_numbers(b" # # # # #", &numbers);
     }
-    say_word(values.kind);
-    let piece = values.piece;
-    let content = values.content;
-    say_number(b" ", piece.from);
-    say_number(b" ", piece.to);
-    say_number(b" ", content.from);
-    say_number(b" ", content.to);
-    say_number(b" ", values.name);
 }
 
 fn say_refusal(values: Values) {
-    say_number(b"refused ", values.number);
-    say_number(b" ", values.place);
+    let number = values.number;
     let piece = values.piece;
     let expected = values.expected;
     let found = values.found;
-    say_span(b" piece ", piece);
-    if values.number == 10 {
-        say_span(b" expected ", expected);
-        say_span(b" found ", found);
-    } else if values.number == 11 {
-        say_span(b" found ", found);
+    let numbers = [number, values.place, piece.from, piece.to];
+    say_numbers(b"refused # # piece #..#", &numbers);
+    match number {
+        10 => {
+            say_span(b" expected #..#", expected);
+            say_span(b" found #..#", found);
+        }
+        11 => say_span(b" found #..#", found),
+        _ => {}
     }
 }
 
 fn say_span(text: &[u8], span: Span) {
-    say_number(text, span.from);
-    say_number(b"..", span.to);
-}
-
-// The phase, the position and the depth.
-fn say_place(reader: Reader) {
-    let phase = reader.phase;
-    say_phase(phase);
-    say_number(b" ", reader.position.0);
-    say_number(b" ", reader.depth.0);
+    let numbers = [span.from, span.to];
+    say_numbers(text, &numbers);
 }
 
 // Where a run stands, and its open names, outermost first. Ends the line.
@@ -68,21 +61,22 @@ pub fn say_names(reader: Reader, stack: &[usize]) {
         if stack.len() <= to {
             break;
         }
-        say_number(b" ", stack[i]);
-        say_number(b"..", stack[to]);
+        put_number(b' ', stack[i]);
+        put(b'.');
+        put_number(b'.', stack[to]);
         i += 2;
     }
-    say(b"\n");
+    put(b'\n');
 }
 
 // The whole state, as a line of a case has it.
 pub fn say_reader(reader: Reader) {
-    say(b" | ");
     let settings = reader.settings;
+    say(b" | ");
     say_settings(settings);
-    say(b" ");
+    put(b' ');
     say_place(reader);
-    say_number(b" ", reader.length);
+    put_number(b' ', reader.length);
     say(b" |");
 }
 
@@ -91,12 +85,12 @@ pub fn say_slots(stack: &[usize]) {
     let mut i = 0;
     while i < stack.len() {
         if stack[i] != 0 {
-            say_number(b" ", i);
-            say_number(b"=", stack[i]);
+            put_number(b' ', i);
+            put_number(b'=', stack[i]);
         }
         i += 1;
     }
-    say(b"\n");
+    put(b'\n');
 }
 
 // What a whole document opens and closes.
@@ -104,11 +98,8 @@ pub fn say_tally(tallied: Tallied) {
     match tallied {
         Tallied::Counted(counts) => {
             let depth = counts.depth;
-            say_number(b"  starts ", counts.openings);
-            say_number(b", ends ", counts.closings);
-            say_number(b", mismatches ", counts.mismatches);
-            say_number(b", open ", depth.0);
-            say(b"\n");
+            let numbers = [counts.openings, counts.closings, counts.mismatches, depth.0];
+            say_numbers(b"  starts #, ends #, mismatches #, open #\n", &numbers);
         }
         Tallied::Refused(_) => {}
     }

@@ -1,6 +1,6 @@
 // The parts of a case's line, and how text and numbers are written.
 use libc::STDOUT_FILENO;
-ghost use Prim.Native.Nat.{_+_, _<_, _≤_, min};
+ghost use Prim.Native.Nat.{_<_, _≤_, min};
 ghost use lib.ListN.{length};
 ghost use Rattle.io.specs.Counts.{Counts};
 
@@ -86,16 +86,12 @@ pub fn values(s: &[u8], from: usize, out: &mut [usize]) {
     }
 }
 
-// What a hexadecimal digit stands for, and 16 for any other byte.
+// What a hexadecimal digit stands for, and 16 for any other byte: each small letter stands six places behind its large one.
 fn digit_of(b: u8) -> usize
     ensures { λ r. ⌜ r ≤ 16 ⌝ }
 {
-    match b {
-        b'0'..=b'9' => (b - b'0') as usize,
-        b'A'..=b'F' => (b - b'A') as usize + 10,
-        b'a'..=b'f' => (b - b'a') as usize + 10,
-        _ => 16,
-    }
+    let at = find(b"0123456789ABCDEFabcdef", 0, b);
+    if at < 16 { at } else { at - 6 }
 }
 
 // Puts the bytes that stand after the space at `from` into `out`, as far as it goes, and answers how many there are.
@@ -112,42 +108,39 @@ pub fn bytes(s: &[u8], from: usize, out: &mut [u8]) -> usize
         if s.len() <= i {
             break;
         }
-        out[n] = byte(s, i);
+        let byte = byte(s, i);
+        out[n] = byte.value;
         n += 1;
-        i += digits_after(s, i);
+        i += byte.digits;
     }
     n
 }
 
-// How many digits belong to the byte at `at`: two where it is `\` and hexadecimal digits follow.
-fn digits_after(s: &[u8], at: usize) -> usize
-    requires { ⌜ at < length (now s) ⌝ }
-    ensures { λ r. ⌜ at + r < length (now (s .entry)) ⌝ }
-{
-    if s[at] != b'\\' {
-        return 0;
-    }
-    if s.len() - at <= 2 {
-        return 0;
-    }
-    if 15 < digit_of(s[at + 1]) {
-        return 0;
-    }
-    if 15 < digit_of(s[at + 2]) {
-        return 0;
-    }
-    2
+// A byte, and how many digits belong to it.
+struct Spelt {
+    value: u8,
+    digits: usize,
 }
 
-// The byte that stands at `at`, by itself or as `\` and two digits.
-fn byte(s: &[u8], at: usize) -> u8
+// The byte that stands at `at`, by itself or as `\` and two hexadecimal digits.
+fn byte(s: &[u8], at: usize) -> Spelt
     requires { ⌜ at < length (now s) ⌝ }
+    ensures { λ r. ⌜ r .digits ≤ 2 ⌝ }
 {
-    let n = digits_after(s, at);
-    if n == 0 {
-        return s[at];
+    let value = s[at];
+    let first = digit_of(ground::byte_at(s, at + 1));
+    let second = digit_of(ground::byte_at(s, at + 2));
+    if value == b'\\' {
+        if first < 16 {
+            if second < 16 {
+                return Spelt {
+                    value: (first * 16 + second) as u8,
+                    digits: 2,
+                };
+            }
+        }
     }
-    ((digit_of(s[at + n - 1]) * 16 + digit_of(s[at + n])) % 256) as u8
+    Spelt { value, digits: 0 }
 }
 
 // How many slots are lent: as many as asked for, if the stack has them.
@@ -170,4 +163,29 @@ pub fn say(text: &[u8]) {
 pub fn say_number(text: &[u8], n: usize) {
     say(text);
     io::print_decimal(STDOUT_FILENO, n as u64);
+}
+
+// Writes a byte.
+pub fn put(b: u8) {
+    let one = [b];
+    say(&one);
+}
+
+// Writes a byte and a number.
+pub fn put_number(b: u8, n: usize) {
+    put(b);
+    io::print_decimal(STDOUT_FILENO, n as u64);
+}
+
+// Writes text with the numbers, one after the other, each in place of a `#`.
+pub fn say_numbers(text: &[u8], numbers: &[usize]) {
+    let mut from = 0;
+    let mut i = 0;
+    while i < numbers.len() {
+        let at = find(text, from, b'#');
+        say_number(ground::part(text, from, at), numbers[i]);
+        from = at + 1;
+        i += 1;
+    }
+    say(ground::part(text, from, text.len()));
 }

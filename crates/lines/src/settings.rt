@@ -5,9 +5,8 @@
 //   n  check_end_names                      e  trim_text_end
 // After them T is `trim_text(true)`, t `trim_text(false)`, K `enable_all_checks(true)` and k `enable_all_checks(false)`.
 use crate::line::find;
-use crate::line::say;
+use crate::line::put;
 use state::config::Config;
-ghost use Prim.Native.Nat.{_≤_};
 
 pub fn settings(letters: &[u8]) -> Config {
     let d = Config::default();
@@ -59,31 +58,31 @@ fn checks(config: Config, letters: &[u8]) -> Config {
 // Writes the letters of the flags that are not at their default, or `-`.
 pub fn say_settings(c: Config) {
     let d = Config::default();
-    let a = say_flag(c.allow_dangling_amp, d.allow_dangling_amp, b"a");
-    let u = say_flag(c.allow_unmatched_ends, d.allow_unmatched_ends, b"u");
-    let k = say_flag(c.check_comments, d.check_comments, b"c");
-    let n = say_flag(c.check_end_names, d.check_end_names, b"n");
-    let x = say_flag(c.expand_empty_elements, d.expand_empty_elements, b"x");
-    let m = say_flag(
+    let mut said = false;
+    said = say_flag(c.allow_dangling_amp, d.allow_dangling_amp, b'a', said);
+    said = say_flag(c.allow_unmatched_ends, d.allow_unmatched_ends, b'u', said);
+    said = say_flag(c.check_comments, d.check_comments, b'c', said);
+    said = say_flag(c.check_end_names, d.check_end_names, b'n', said);
+    said = say_flag(c.expand_empty_elements, d.expand_empty_elements, b'x', said);
+    said = say_flag(
         c.trim_markup_names_in_closing_tags,
         d.trim_markup_names_in_closing_tags,
-        b"m",
+        b'm',
+        said,
     );
-    let s = say_flag(c.trim_text_start, d.trim_text_start, b"s");
-    let e = say_flag(c.trim_text_end, d.trim_text_end, b"e");
-    if a + u + k + n + x + m + s + e == 0 {
-        say(b"-");
+    said = say_flag(c.trim_text_start, d.trim_text_start, b's', said);
+    said = say_flag(c.trim_text_end, d.trim_text_end, b'e', said);
+    if !said {
+        put(b'-');
     }
 }
 
-// Writes the letter of a flag that is not at its default, and answers how many letters that are.
-fn say_flag(flag: bool, default: bool, letter: &[u8]) -> usize
-    ensures { λ r. ⌜ r ≤ 1 ⌝ }
-{
+// Writes the letter of a flag that is not at its default, and answers whether a letter is written by now.
+fn say_flag(flag: bool, default: bool, letter: u8, before: bool) -> bool {
     if flag == default {
-        0
+        before
     } else {
-        say(letter);
-        1
+        put(letter);
+        true
     }
 }

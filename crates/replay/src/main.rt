@@ -40,11 +40,11 @@ fn run(s: &[u8]) {
 }
 
 fn answer(text: &[u8]) {
-    if ground::starts_with(text, 0, b"#") {
+    if ground::byte_at(text, 0) == b'#' {
         return;
     }
     line::say(text);
-    line::say(b"\n");
+    line::put(b'\n');
     if ground::starts_with(text, 0, b"difference ") {
         let tag = line::word(text, 0);
         calls::case(text, line::word(text, tag));

@@ -1,8 +1,10 @@
 // The line of a call: the answer, and where it leaves the reader.
+use lines::line::put;
+use lines::line::put_number;
 use lines::line::say;
-use lines::line::say_number;
+use lines::line::say_numbers;
 use lines::words::say_bytes;
-use lines::words::say_phase;
+use lines::words::say_place;
 use lines::words::say_word;
 use reader::content;
 use state::answer::Kind;
@@ -14,7 +16,7 @@ use state::run::Reader;
 pub fn say_values(values: Values, reader: Reader, document: &[u8]) {
     say(b"  ");
     if values.kind == 0 {
-        say_refusal(values, reader, document);
+        say_refusal(values, values.place, reader, document);
         return;
     }
     let span = values.content;
@@ -24,43 +26,36 @@ pub fn say_values(values: Values, reader: Reader, document: &[u8]) {
 // The word, where the reader is left, the name's length and the content.
 fn say_event(values: Values, reader: Reader, bytes: &[u8]) {
     say_word(values.kind);
+    put(b' ');
     say_place(reader);
-    say_number(b" ", values.name);
-    say(b" ");
+    put_number(b' ', values.name);
+    put(b' ');
     say_bytes(bytes);
-    say(b"\n");
+    put(b'\n');
 }
 
-// The number and the place, where the reader is left, and the names of a closing tag that is refused.
-fn say_refusal(values: Values, reader: Reader, document: &[u8]) {
-    say_number(b"refused ", values.number);
-    say_number(b" ", values.place);
+// The number and a place, where the reader is left, and the names of a closing tag that is refused.
+fn say_refusal(values: Values, place: usize, reader: Reader, document: &[u8]) {
+    let number = values.number;
+    let numbers = [number, place];
+    say_numbers(b"refused # # ", &numbers);
     say_place(reader);
-    if values.number == 10 {
-        let expected = values.expected;
-        say_name(expected, document);
-    }
-    if 9 < values.number {
-        if values.number < 12 {
-            let found = values.found;
+    let expected = values.expected;
+    let found = values.found;
+    match number {
+        10 => {
+            say_name(expected, document);
             say_name(found, document);
         }
+        11 => say_name(found, document),
+        _ => {}
     }
-    say(b"\n");
+    put(b'\n');
 }
 
 fn say_name(span: Span, document: &[u8]) {
-    say(b" ");
+    put(b' ');
     say_bytes(content(document, span));
-}
-
-// The phase, the position and how many names are open.
-fn say_place(reader: Reader) {
-    say(b" ");
-    let phase = reader.phase;
-    say_phase(phase);
-    say_number(b" ", reader.position.0);
-    say_number(b" ", reader.depth.0);
 }
 
 // What the crate answers, where it answers something else: see docs/DIFFERENCES.md.
@@ -86,24 +81,7 @@ fn stale_place(values: Values, reader: Reader, document: &[u8], first: u8, place
         return;
     }
     say(b"  crate ");
-    let piece = values.piece;
-    let content = values.content;
-    let expected = values.expected;
-    let found = values.found;
-    say_refusal(
-        Values {
-            kind: values.kind,
-            number: values.number,
-            place,
-            piece,
-            content,
-            name: values.name,
-            expected,
-            found,
-        },
-        reader,
-        document,
-    );
+    say_refusal(values, place, reader, document);
 }
 
 // `dangling-trim`: the text of a `&` without its `;` is trimmed as other text is.

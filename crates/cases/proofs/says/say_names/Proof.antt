@@ -6,10 +6,10 @@ use Rattle.cases.proofs.says.say_names.Statement.{statement}
 use Rattle.cases.proofs.says.say_names.Tie as tie
 
 abbrev Inv-loop : tie.InvT-loop
-Inv-loop stack names i₀ t7 t8 t9 i = Unit {0}
+Inv-loop stack names i₀ i = Unit {0}
 
 abbrev μ-loop : tie.MeasureT-loop
-μ-loop stack names i₀ t7 t8 t9 i = length stack - i
+μ-loop stack names i₀ i = length stack - i
 
 pub say-names-spec : {M : Type 1} → statement M
 say-names-spec =
@@ -24,13 +24,11 @@ say-names-spec =
     (λ c. search needs)
     (λ c. search needs)
     (λ c. search needs)
-    (λ c. search needs)
+    (λ c κs. search needs)
     (λ c κs. search needs)
     (λ c. search needs)
     (λ c. search needs)
-    (λ c. search needs)
     (λ c κs. search needs)
-    (λ c. search needs)
     (λ c. search needs)
     (λ c. search needs)
     (λ c. search needs)

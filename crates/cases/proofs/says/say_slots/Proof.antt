@@ -6,10 +6,10 @@ use Rattle.cases.proofs.says.say_slots.Statement.{statement}
 use Rattle.cases.proofs.says.say_slots.Tie as tie
 
 abbrev Inv-loop : tie.InvT-loop
-Inv-loop stack i₀ t3 t4 t5 i = Unit {0}
+Inv-loop stack i₀ i = Unit {0}
 
 abbrev μ-loop : tie.MeasureT-loop
-μ-loop stack i₀ t3 t4 t5 i = length stack - i
+μ-loop stack i₀ i = length stack - i
 
 pub say-slots-spec : {M : Type 1} → statement M
 say-slots-spec =
@@ -20,13 +20,10 @@ say-slots-spec =
     (λ c. search needs)
     (λ c. search needs)
     (λ c. search needs)
-    (λ c. search needs)
     (λ c κs. search needs)
     (λ c. search needs)
     (λ c. search needs)
-    (λ c. search needs)
     (λ c κs. search needs)
-    (λ c. search needs)
     (λ c. search needs)
     (λ c. search needs)
     (λ c. search needs)

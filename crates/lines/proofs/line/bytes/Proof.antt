@@ -3,8 +3,8 @@ use Prim.Native.Nat.{_-_, _≤_}
 use mathlib.Core.Path.{_≡_}
 use lib.ListN.{length, length-set}
 use native.Mathlib.Omega.{arith}
-use borrow.Author.Needs.{needs}
 use Rattle.io.proofs.Counting.{counts}
+use borrow.Author.Needs.{needs}
 use Rattle.lines.proofs.line.bytes.Statement.{statement}
 use Rattle.lines.proofs.line.bytes.Tie as tie
 
@@ -25,13 +25,12 @@ bytes-spec =
     (λ c κs. search needs)
     (λ c. search needs)
     (λ c. search needs)
-    (λ c κs. search needs)
     (λ c. search needs)
     (λ c. search needs)
     (λ c. simp length-set (omega arith))
+    (λ c. search needs)
     (λ c. search (needs, counts))
+    (λ c. search needs)
     (λ c. search (needs, counts))
-    (λ c. search (needs, counts))
-    (λ c. search (needs, counts))
-    (λ c. search (needs, counts))
+    (λ c. search needs)
     (λ c. search (needs, counts)))

@@ -1,15 +1,15 @@
 -- `say_bytes` is safe and ends: fewer bytes are left after each. Assumes nothing.
-use Prim.Native.Nat.{_-_, _≤_}
+use Prim.Native.Nat.{_-_}
 use lib.ListN.{length}
 use borrow.Author.Needs.{needs}
 use Rattle.lines.proofs.words.say_bytes.Statement.{statement}
 use Rattle.lines.proofs.words.say_bytes.Tie as tie
 
 abbrev Inv-loop : tie.InvT-loop
-Inv-loop bytes i₀ t4 i = i ≤ length bytes
+Inv-loop bytes i₀ i = Unit {0}
 
 abbrev μ-loop : tie.MeasureT-loop
-μ-loop bytes i₀ t4 i = length bytes - i
+μ-loop bytes i₀ i = length bytes - i
 
 pub say-bytes-spec : {M : Type 1} → statement M
 say-bytes-spec =
@@ -17,12 +17,10 @@ say-bytes-spec =
     (tie.spec
     Inv-loop
     μ-loop
-    (λ c. search needs)
     (λ c κs. search needs)
     (λ c. search needs)
     (λ c. search needs)
     (λ c κs. search needs)
-    (λ c. search needs)
     (λ c. search needs)
     (λ c. search needs)
     (λ c. search needs)
