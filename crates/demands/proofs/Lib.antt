@@ -1,4 +1,5 @@
 pub mod Clauses
+pub mod Comments
 pub mod Demand1
 pub mod Demand3
 pub mod Held

@@ -26,6 +26,13 @@ isEnd a = eqb (valuesOf a .kind) (kindNumber Kind.End)
 abbrev pub isEof : Answer → Bool
 isEof a = eqb (valuesOf a .kind) (kindNumber Kind.Eof)
 
+abbrev pub isComment : Answer → Bool
+isComment a = eqb (valuesOf a .kind) (kindNumber Kind.Comment)
+
+-- 9: "DoubleHyphenInComment"
+abbrev pub isDoubleHyphen : Answer → Bool
+isDoubleHyphen a = eqb (valuesOf a .number) 9
+
 -- 10: "MismatchedEndTag"
 abbrev pub isMismatch : Answer → Bool
 isMismatch a = eqb (valuesOf a .number) 10

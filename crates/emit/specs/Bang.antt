@@ -1,15 +1,14 @@
 -- Comments and CDATA (document 01, "Steps").
-use Prim.Native.Nat.{ℕ, _+_, _-_, _≤_, _<_}
-use mathlib.Core.Path.{_≡_}
+use Prim.Native.Nat.{ℕ, _+_, _-_}
 use mathlib.Core.List.{List, [], _∷_}
-use lib.ListN.{getD, drop}
+use lib.ListN.{drop}
 use lib.Dec.{eqb, ltb}
 use Rattle.ground.specs.Choose.{pick}
 use Rattle.ground.specs.Bytes.{bang, hyphen, lt, openBracket}
 use Rattle.ground.specs.Part.{part}
 use Rattle.ground.specs.Equal.{begins}
 use Rattle.parser.specs.First.{byFirst}
-use Rattle.parser.specs.Hyphens.{pairFound}
+use Rattle.parser.specs.Hyphens.{pairFound, HyphensAt}
 use Rattle.state.specs.declared.place.Position.{Position}
 use Rattle.state.specs.declared.place.Span.{Span}
 use Rattle.state.specs.declared.answer.Kind.{Kind}
@@ -69,13 +68,6 @@ emitCData doc r piece =
 
 -- ---- 9 in words
 
--- "a content `-` is followed by `-` (the closer's included)": one stands at k, a place of the content, and one right after it
-pub record HyphensAt (doc : List ℕ) (content : Span) (k : ℕ) : Type 0 where
-  pub after : content .from ≤ k
-  pub within : k < content .to
-  pub first : getD doc k 0 ≡ hyphen
-  pub second : getD doc (k + 1) 0 ≡ hyphen
-
--- somewhere in the content
+-- "a content `-` is followed by `-` (the closer's included)"
 abbrev pub TwoHyphens : List ℕ → Span → Type 0
-TwoHyphens doc content = (k : ℕ) × HyphensAt doc content k
+TwoHyphens doc content = (k : ℕ) × HyphensAt doc (content .from) (content .to) k

@@ -9,9 +9,9 @@ use Rattle.parser.specs.declared.first.Found.{Found as FirstFound}
 use Rattle.parser.specs.declared.marks.Found.{Found as MarksFound}
 
 module _ {A : Type 0} (M : A → Type 0) where
-  pub first-cases : (x : FirstFound) (f : ℕ → A) (a : A) → ((p : ℕ) → x ≡ FirstFound.At p → M (f p)) → M a → M (byFirst x f a)
+  pub first-cases : (x : FirstFound) (f : ℕ → A) (a : A) → ((p : ℕ) → x ≡ FirstFound.At p → M (f p)) → (x ≡ FirstFound.End → M a) → M (byFirst x f a)
   first-cases (FirstFound.At p) f a g h = g p refl
-  first-cases FirstFound.End f a g h = h
+  first-cases FirstFound.End f a g h = h refl
 
   pub tag-cases : (x : TagFound) (f : ℕ → A) (a : A) → ((p : ℕ) → x ≡ TagFound.At p → M (f p)) → M a → M (byTag x f a)
   tag-cases (TagFound.At p) f a g h = g p refl

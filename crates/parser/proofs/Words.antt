@@ -14,14 +14,14 @@ use Rattle.ground.specs.Choose.{pick}
 use Rattle.ground.specs.Bytes.{quot, apos, gt, hyphen, question, closeBracket}
 use Rattle.ground.specs.Least.{Nowhere, Gives}
 use Rattle.ground.proofs.Choices.{pick-cases, clash}
-use Rattle.ground.proofs.Lists.{part-in, take-next}
+use Rattle.ground.proofs.Lists.{stands-in, part-in, take-next}
 use Rattle.parser.specs.Machine.{Next, go, scanAt}
 use Rattle.parser.specs.Element.{elementStep, elementAnswer, elementFound, IsQuote, OutsideQuotes, at-first, unquoted, WithinQuote, LeavesIn, TagEnd}
 use Rattle.parser.specs.Marks.{marksStep, marksAnswer, marksFound, piFound, commentFound, cdataFound, passing}
 use Rattle.parser.specs.Marks.{MarkedEnd, MarksLeft, PiEnd, CommentEnd, CDataEnd}
 use Rattle.parser.specs.First.{firstStep, firstAnswer, firstFound, oneOf, textEnds, textFound, referenceEnds, referenceFound}
 use Rattle.parser.specs.First.{Among, ByteAmong, TextEnd, ReferenceEnd}
-use Rattle.parser.specs.Hyphens.{pairStep, pairAnswer, pairFound, PairEnd}
+use Rattle.parser.specs.Hyphens.{pairStep, pairAnswer, pairFound, PairEnd, HyphensAt}
 use Rattle.parser.specs.declared.element.ElementState.{ElementState}
 use Rattle.parser.specs.declared.element.ElementState.the-variants.{Outside, SingleQ, DoubleQ}
 use Rattle.parser.specs.declared.element.Found.the-variants.{At, Open}
@@ -264,3 +264,30 @@ module _ (s : List ℕ) (from : ℕ) where
   pair-end =
       tells-none pairStep s (PairEnd s from) Before pairAnswer (λ t p e. let z : _≡_ {A = ℕ} 0 1 = cc in omega arith)
       false (λ u. refl) (scanAt pairStep false s from) pair-tells
+
+-- two hyphens in a span, the second at its end at the latest
+module _ (s : List ℕ) (from to : ℕ) where
+  -- the second of them is where a pair ends
+  pair-of : (k : ℕ) → HyphensAt s from to k → PairEnd s from (k + 1)
+  pair-of k h =
+      let back : k + 1 - 1 ≡ k = omega arith in
+      record {
+        after = omega (arith, h .after);
+        within = stands-in s (k + 1) hyphen (h .second) (omega arith);
+        second = h .second;
+        first = rw back (h .first);
+      }
+
+  -- the scan finds one that ends in the span
+  pub pair-within : (p : ℕ) → pairFound s from ≡ FirstAt p → p ≤ to → HyphensAt s from to (p - 1)
+  pair-within p e l =
+      let h = pair-gives s from .found p .0 e .has in
+      let on : p - 1 + 1 ≡ p = omega (arith, h .after) in
+      record { after = omega (arith, h .after); before = omega (arith, h .after); first = h .first; second = rw on (h .second) }
+
+  -- one that ends behind it, or none
+  pub pair-behind : (p : ℕ) → pairFound s from ≡ FirstAt p → to < p → Nowhere (HyphensAt s from to)
+  pair-behind p e l k h = pair-gives s from .found p .0 e .before (k + 1) (omega (arith, h .before)) (pair-of k h)
+
+  pub pair-nowhere : pairFound s from ≡ End → Nowhere (HyphensAt s from to)
+  pair-nowhere e k h = pair-end s from .0 e (k + 1) (pair-of k h)

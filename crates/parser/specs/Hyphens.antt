@@ -1,5 +1,5 @@
 -- The scan for two hyphens in a row, for which `check_comments` refuses a comment (document 01, "Steps").
-use Prim.Native.Nat.{ℕ, _-_, _<_}
+use Prim.Native.Nat.{ℕ, _+_, _-_, _≤_, _<_}
 use mathlib.Core.Path.{_≡_}
 use mathlib.Core.List.{List}
 use mathlib.Core.Bool.{Bool, true, false}
@@ -32,3 +32,10 @@ pub record PairEnd (s : List ℕ) (from p : ℕ) : Type 0 where
   pub within : p < length s
   pub second : getD s p 0 ≡ hyphen
   pub first : getD s (p - 1) 0 ≡ hyphen
+
+-- at k and right after it stand hyphens, and k lies from `from` on and before `to`
+pub record HyphensAt (s : List ℕ) (from to k : ℕ) : Type 0 where
+  pub after : from ≤ k
+  pub before : k < to
+  pub first : getD s k 0 ≡ hyphen
+  pub second : getD s (k + 1) 0 ≡ hyphen

@@ -72,8 +72,9 @@ Lands doc to Phase.Done = Unit {0}
 abbrev pub Plain : ℕ → Type 0
 Plain n = (n ≡ 10 → ⊥) × (n ≡ 11 → ⊥) × (n ≡ 16 → ⊥) × (n ≡ 17 → ⊥)
 
+-- an error with such a number, and not 9, which is for comments
 abbrev pub PlainError : Error → Type 0
-PlainError e = Plain (numberedOf e .number)
+PlainError e = Plain (numberedOf e .number) × (numberedOf e .number ≡ 9 → ⊥)
 
 -- a span from `from` on, in the document
 pub record Lies (doc : List ℕ) (from : ℕ) (s : Span) : Type 0 where
@@ -147,7 +148,7 @@ module _ (doc : List ℕ) (from : ℕ) where
         (λ p e. let t = found-has FirstFound.At _ _ (text-gives doc from) (textFound doc from) p refl e in
         let o : from ≡ p → ⊥ = λ z. here (rw z (t .among)) in
         whole-cut Shape.Text p (phaseAt doc p) (t .after) (omega (arith, t)) (omega (arith, t .after)) tt (phase-lands doc p (t .among)))
-        (whole-cut Shape.LastText (length doc) Phase.Done h (omega arith) (omega arith) tt tt)
+        (λ _. whole-cut Shape.LastText (length doc) Phase.Done h (omega arith) (omega arith) tt tt)
       where
         here : Among textEnds (getD doc from 0) → ⊥
         here (inl e) = l e
@@ -162,7 +163,7 @@ module _ (doc : List ℕ) (from : ℕ) where
         pick-cases Here (eqb (getD doc p 0) semicolon) _ _
         (λ _. whole-cut Shape.GeneralRef (p + 1) Phase.InsideText (omega (arith, t)) (omega (arith, t)) (omega (arith, t)) tt tt)
         (λ n. whole-cut Shape.Dangling p (phaseAt doc p) (omega (arith, t)) (omega (arith, t)) (omega (arith, t)) tt (phase-lands doc p (not-first (eqb-false _ _ n) (t .among)))))
-        (whole-cut Shape.Dangling (length doc) Phase.Done h (omega arith) (omega arith) tt tt)
+        (λ _. whole-cut Shape.Dangling (length doc) Phase.Done h (omega arith) (omega arith) tt tt)
       where
         not-first : {b : ℕ} → (b ≡ semicolon → ⊥) → Among referenceEnds b → Among textEnds b
         not-first n (inl e) = absurd (n e)

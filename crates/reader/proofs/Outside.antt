@@ -7,7 +7,7 @@ use mathlib.Core.Bool.{true, false}
 use native.Mathlib.Omega.{arith}
 use lib.ListN.{length, drop, getD}
 use lib.Dec.{eqb, leb, ltb}
-use borrow.Author.Tests.{eq-eqb, eqb-true, eqb-false, ltb-true, lt-ltb}
+use borrow.Author.Tests.{eq-eqb, eqb-true, eqb-false, ltb-true, ltb-false, lt-ltb}
 use Rattle.ground.specs.Bytes.{lt}
 use Rattle.ground.specs.Equal.{begins, same}
 use Rattle.ground.specs.Part.{part}
@@ -20,6 +20,7 @@ use Rattle.utf8.specs.Utf8.{check, byUtf8}
 use Rattle.utf8.specs.declared.Utf8.{Utf8}
 use Rattle.parser.specs.Hyphens.{pairFound}
 use Rattle.parser.proofs.Cases.{first-cases}
+use Rattle.parser.proofs.Words.{pair-within, pair-behind, pair-nowhere}
 use Rattle.state.specs.declared.place.Position.{Position}
 use Rattle.state.specs.declared.place.Span.{Span}
 use Rattle.state.specs.declared.config.Config.{Config}
@@ -32,13 +33,13 @@ use Rattle.state.specs.declared.run.Reader.{Reader}
 use Rattle.state.specs.declared.run.Step.{Step}
 use Rattle.state.specs.Place.{at, span, size, depthOf, inner}
 use Rattle.state.specs.Limits.{capacity}
-use Rattle.state.specs.Values.{kindNumber, valuesOf}
+use Rattle.state.specs.Values.{kindNumber, numberedOf, valuesOf}
 use Rattle.state.specs.Make.{event, moved, withDepth, told, ended, refused, stopped}
 use Rattle.state.proofs.Numbers.{no-number}
 use Rattle.state.proofs.Spans.{inner-lies, fits}
 use Rattle.emit.specs.Text.{textContent, emitText, emitLastText}
 use Rattle.emit.specs.Reference.{emitRef, emitDangling}
-use Rattle.emit.specs.Bang.{commentOpener, cdataOpener, bangEvent, checkedComment, emitComment, emitCData}
+use Rattle.emit.specs.Bang.{commentOpener, cdataOpener, bangEvent, checkedComment, emitComment, emitCData, TwoHyphens}
 use Rattle.emit.specs.Question.{isDecl, questionEvent, emitQuestionMark}
 use Rattle.emit.specs.End.{endEvent, unmatched, differs, matched, emitEnd, closeExpandedEmpty}
 use Rattle.emit.specs.Start.{slashed, tag, opening, emitStart}
@@ -89,6 +90,11 @@ pub data Named (doc : List ℕ) (cap : ℕ) (last : Span) (r : Reader) (s : Step
   closes-nothing : valuesOf (s .answer) .kind ≡ kindNumber Kind.End → r .depth .0 ≡ 0 → s .reader .depth .0 ≡ 0 → r .settings .«allow_unmatched_ends» ≡ true → Named doc cap last r s
   unmatches : valuesOf (s .answer) .number ≡ 11 → r .depth .0 ≡ 0 → s .reader .depth .0 ≡ 0 → r .settings .«allow_unmatched_ends» ≡ false → Named doc cap last r s
 
+-- what a call says of a comment: 9 for two hyphens in it, and a Comment where they are looked for and there are none
+pub record Commented (doc : List ℕ) (r : Reader) (a : Answer) : Type 0 where
+  pub refused : valuesOf a .number ≡ 9 → (r .settings .«check_comments» ≡ true) × TwoHyphens doc (inner (valuesOf a .piece) 4 3)
+  pub passed : valuesOf a .kind ≡ kindNumber Kind.Comment → r .settings .«check_comments» ≡ true → TwoHyphens doc (inner (valuesOf a .piece) 4 3) → ⊥
+
 pub record Turned (doc : List ℕ) (cap : ℕ) (last : Span) (r : Reader) (s : Step) : Type 0 where
   pub size : s .reader .length ≡ r .length
   pub settings : s .reader .settings ≡ r .settings
@@ -101,6 +107,7 @@ pub record Turned (doc : List ℕ) (cap : ℕ) (last : Span) (r : Reader) (s : S
   pub falls : rank doc (s .reader) ≤ rank doc r - 1
   pub over : valuesOf (s .answer) .kind ≡ kindNumber Kind.Eof → s .reader .phase ≡ Phase.Done
   pub names : Named doc cap last r s
+  pub comment : Commented doc r (s .answer)
 
 -- ---- the two ways to answer
 
@@ -115,9 +122,21 @@ record Some (doc : List ℕ) (r : Reader) (piece : Span) : Type 0 where
   pub has : piece .from < piece .to
   pub near : length doc - piece .from + 1 ≤ rank doc r
 
--- a kind of event that says nothing of names, and is not Eof
+-- a kind of event that says nothing of names, and is neither Eof nor a Comment
 abbrev Silent : Kind → Type 0
-Silent k = (kindNumber k ≡ kindNumber Kind.Start → ⊥) × (kindNumber k ≡ kindNumber Kind.End → ⊥) × (kindNumber k ≡ kindNumber Kind.Eof → ⊥)
+Silent k =
+    (kindNumber k ≡ kindNumber Kind.Start → ⊥)
+    × (kindNumber k ≡ kindNumber Kind.End → ⊥)
+    × (kindNumber k ≡ kindNumber Kind.Eof → ⊥)
+    × (kindNumber k ≡ kindNumber Kind.Comment → ⊥)
+
+-- what is to be known of an event that is a Comment
+abbrev Unpaired : List ℕ → Reader → Span → Kind → Type 0
+Unpaired doc r piece k = kindNumber k ≡ kindNumber Kind.Comment → r .settings .«check_comments» ≡ true → TwoHyphens doc (inner piece 4 3) → ⊥
+
+-- and of a refusal that is 9
+abbrev Paired : List ℕ → Reader → Span → Error → Type 0
+Paired doc r piece error = numberedOf error .number ≡ 9 → (r .settings .«check_comments» ≡ true) × TwoHyphens doc (inner piece 4 3)
 
 -- the same reader but for phase, position and depth
 record Like (r b : Reader) : Type 0 where
@@ -165,10 +184,10 @@ module _ (doc : List ℕ) (cap : ℕ) (last : Span) (r : Reader) (piece : Span) 
   Names = Named doc cap last r
 
   told-turn : (b : Reader) (kind : Kind) (content : Span) (name : ℕ) (next : Phase) → Like r b → Next doc r b (piece .to) next
-      → (kindNumber kind ≡ kindNumber Kind.Eof → next ≡ Phase.Done)
+      → (kindNumber kind ≡ kindNumber Kind.Eof → next ≡ Phase.Done) → Unpaired doc r piece kind
       → Names (told b (event kind piece content name) next) → Turn (told b (event kind piece content name) next)
   unfolding told moved inPlace
-  told-turn b kind content name next l n o k =
+  told-turn b kind content name next l n o u k =
       record {
         size = l .size;
         settings = l .settings;
@@ -180,12 +199,13 @@ module _ (doc : List ℕ) (cap : ℕ) (last : Span) (r : Reader) (piece : Span) 
         falls = n .falls;
         over = o;
         names = k;
+        comment = record { refused = λ e. absurd (omega arith); passed = u };
       }
 
-  refused-turn : (b : Reader) (error : Error) (place : Position) (next : Phase) → Like r b → Next doc r b (piece .to) next
+  refused-turn : (b : Reader) (error : Error) (place : Position) (next : Phase) → Like r b → Next doc r b (piece .to) next → Paired doc r piece error
       → Names (refused b error place piece next) → Turn (refused b error place piece next)
   unfolding refused moved inPlace
-  refused-turn b error place next l n k =
+  refused-turn b error place next l n p k =
       record {
         size = l .size;
         settings = l .settings;
@@ -197,6 +217,7 @@ module _ (doc : List ℕ) (cap : ℕ) (last : Span) (r : Reader) (piece : Span) 
         falls = n .falls;
         over = λ e. absurd (omega arith);
         names = k;
+        comment = record { refused = p; passed = λ e. absurd (omega arith) };
       }
 
   -- the phases that come next
@@ -223,13 +244,13 @@ module _ (doc : List ℕ) (cap : ℕ) (last : Span) (r : Reader) (piece : Span) 
       → Turn (told r (event kind piece content name) next)
   unfolding told moved
   told-quiet kind content name next n q =
-      told-turn r kind content name next (like-itself r) n (λ e. absurd (q .2 e)) (keeps (q .0, q .1, omega arith) refl)
+      told-turn r kind content name next (like-itself r) n (λ e. absurd (q .2 e)) (λ e. absurd (q .3 e)) (keeps (q .0, q .1, omega arith) refl)
 
   refused-quiet : (error : Error) (place : Position) (next : Phase) → Next doc r r (piece .to) next → PlainError error
       → Turn (refused r error place piece next)
   unfolding refused moved
   refused-quiet error place next n p =
-      refused-turn r error place next (like-itself r) n (keeps (λ e. omega arith, λ e. omega arith, p) refl)
+      refused-turn r error place next (like-itself r) n (λ e. absurd (p .1 e)) (keeps (λ e. omega arith, λ e. omega arith, p .0) refl)
 
   stopped-quiet : (error : Error) (place : Position) → PlainError error → Turn (stopped r error place piece)
   unfolding stopped
@@ -237,7 +258,7 @@ module _ (doc : List ℕ) (cap : ℕ) (last : Span) (r : Reader) (piece : Span) 
 
   ended-quiet : Turn (ended r piece)
   unfolding ended told moved
-  ended-quiet = told-turn r Kind.Eof _ 0 Phase.Done (like-itself r) (to-done r) (λ _. refl) (keeps (omega arith) refl)
+  ended-quiet = told-turn r Kind.Eof _ 0 Phase.Done (like-itself r) (to-done r) (λ _. refl) (λ e. absurd (omega arith)) (keeps (omega arith) refl)
 
   -- ---- text, references, comments, CDATA, processing instructions
 
@@ -272,20 +293,30 @@ module _ (doc : List ℕ) (cap : ℕ) (last : Span) (r : Reader) (piece : Span) 
     unfolding bangEvent
     bang-turn kind content q = plain-turn kind content 0 q
 
-    checked-turn : (content : Span) → Turn (checkedComment doc r piece content)
-    unfolding checkedComment
-    checked-turn content =
-        first-cases Turn (pairFound doc (content .from)) _ _
-        (λ p _. pick-cases Turn (ltb (content .to) p) _ _
-        (λ _. bang-turn Kind.Comment content (omega arith))
-        (λ _. refused-quiet Error.DoubleHyphenInComment _ Phase.InsideText (to-text some r) (omega arith)))
-        (bang-turn Kind.Comment content (omega arith))
+    -- a Comment, where it is known what its hyphens are
+    remark-turn : (content : Span) → (r .settings .«check_comments» ≡ true → TwoHyphens doc (inner piece 4 3) → ⊥) → Turn (bangEvent r Kind.Comment piece content)
+    unfolding bangEvent told moved
+    remark-turn content u =
+        told-turn r Kind.Comment content 0 Phase.InsideText (like-itself r) (to-text some r) (λ e. absurd (omega arith)) (λ _. u) (keeps (omega arith) refl)
+
+    -- one whose hyphens are looked for
+    checked-turn : r .settings .«check_comments» ≡ true → Turn (checkedComment doc r piece (inner piece 4 3))
+    unfolding checkedComment refused moved
+    checked-turn on =
+        let from : ℕ = inner piece 4 3 .from in
+        let to : ℕ = inner piece 4 3 .to in
+        first-cases Turn (pairFound doc from) _ _
+        (λ p e. pick-cases Turn (ltb to p) _ _
+        (λ t. remark-turn _ (λ _ h. pair-behind doc from to p e (ltb-true to p t) (h .0) (h .1)))
+        (λ t. refused-turn r Error.DoubleHyphenInComment _ Phase.InsideText (like-itself r) (to-text some r)
+        (λ _. (on, (p - 1, pair-within doc from to p e (ltb-false to p t)))) (keeps (omega arith) refl)))
+        (λ e. remark-turn _ (λ _ h. pair-nowhere doc from to e (h .0) (h .1)))
 
     comment-turn : Turn (emitComment doc r piece)
     unfolding emitComment
     comment-turn =
         pick-cases Turn (begins (drop (piece .from) doc) commentOpener) _ _
-        (λ _. pick-cases Turn (r .settings .«check_comments») _ _ (λ _. checked-turn _) (λ _. bang-turn Kind.Comment _ (omega arith)))
+        (λ _. pick-cases Turn (r .settings .«check_comments») _ _ (λ on. checked-turn on) (λ off. remark-turn _ (λ on. clash _ on off)))
         (λ _. stopped-quiet Error.UnclosedComment _ (omega arith))
 
     cdata-turn : Turn (emitCData doc r piece)
@@ -309,20 +340,20 @@ module _ (doc : List ℕ) (cap : ℕ) (last : Span) (r : Reader) (piece : Span) 
     module _ (name : Span) where
       stray-turn : r .depth .0 ≡ 0 → r .settings .«allow_unmatched_ends» ≡ true → Turn (endEvent r piece name)
       unfolding endEvent told moved
-      stray-turn z on = told-turn r Kind.End name _ Phase.InsideText (like-itself r) (to-text some r) (λ e. absurd (omega arith)) (closes-nothing refl z z on)
+      stray-turn z on = told-turn r Kind.End name _ Phase.InsideText (like-itself r) (to-text some r) (λ e. absurd (omega arith)) (λ e. absurd (omega arith)) (closes-nothing refl z z on)
 
       unmatched-turn : r .depth .0 ≡ 0 → Turn (unmatched r piece name)
       unfolding unmatched refused moved
       unmatched-turn z =
           pick-cases Turn (r .settings .«allow_unmatched_ends») _ _
           (λ on. stray-turn z on)
-          (λ off. refused-turn r (Error.UnmatchedEndTag name) _ Phase.InsideText (like-itself r) (to-text some r) (unmatches refl z z off))
+          (λ off. refused-turn r (Error.UnmatchedEndTag name) _ Phase.InsideText (like-itself r) (to-text some r) (λ e. absurd (omega arith)) (unmatches refl z z off))
 
       -- b has one name fewer
       module _ (z : 0 < r .depth .0) (b : Reader) (l : Like r b) (d : b .depth .0 ≡ r .depth .0 - 1) where
         end-turn : (r .settings .«check_end_names» ≡ true → bytes doc name ≡ bytes doc last) → Turn (endEvent b piece name)
         unfolding endEvent told moved
-        end-turn same = told-turn b Kind.End name _ Phase.InsideText l (to-text some b) (λ e. absurd (omega arith)) (closes refl z d same)
+        end-turn same = told-turn b Kind.End name _ Phase.InsideText l (to-text some b) (λ e. absurd (omega arith)) (λ e. absurd (omega arith)) (closes refl z d same)
 
         matched-turn : Turn (matched doc b last piece name)
         unfolding matched refused moved
@@ -330,7 +361,7 @@ module _ (doc : List ℕ) (cap : ℕ) (last : Span) (r : Reader) (piece : Span) 
             let on = ap (λ (c : Config). c .«check_end_names») (l .settings) in
             pick-cases Turn (differs doc (b .settings) last name) _ _
             (λ e. let x = disagrees doc (b .settings) last name e in
-            refused-turn _ (Error.MismatchedEndTag last name) _ Phase.InsideText l (to-text some _)
+            refused-turn _ (Error.MismatchedEndTag last name) _ Phase.InsideText l (to-text some _) (λ e. absurd (omega arith))
             (mismatches refl z d (sym on ∙ x .0) refl (x .1)))
             (λ e. end-turn (λ h. agrees doc (b .settings) last name e (on ∙ h)))
 
@@ -357,7 +388,7 @@ module _ (doc : List ℕ) (cap : ℕ) (last : Span) (r : Reader) (piece : Span) 
             → Turn (told b (event Kind.Start piece content (nameLen (bytes doc content))) next)
         unfolding told moved
         added-turn b l d room =
-            told-turn b Kind.Start content _ next l (n b d) (λ e. absurd (omega arith))
+            told-turn b Kind.Start content _ next l (n b d) (λ e. absurd (omega arith)) (λ e. absurd (omega arith))
             (opens refl room d (record { ordered = o; within = w; named = refl; opens = bracket; starts = first; expands = x }))
 
         opened-turn : Turn (opening r (depthOf cap) (tag doc Kind.Start piece content) next)
@@ -482,7 +513,8 @@ module _ (doc : List ℕ) (cap : ℕ) (last : Span) (r : Reader) where
       expanded-end b l d =
           let z : 0 < r .depth .0 = ltb-true _ _ (simp e at ok) in
           told-turn doc cap last r (span (r .position .0) (r .position .0)) (record { after = omega arith; ordered = omega arith; within = in-doc }) b Kind.End last _
-          Phase.InsideText l (record { in-place = refl; falls = rw e (omega arith) }) (λ e. absurd (omega arith)) (closes refl z d (λ _. refl))
+          Phase.InsideText l (record { in-place = refl; falls = rw e (omega arith) }) (λ e. absurd (omega arith)) (λ e. absurd (omega arith))
+          (closes refl z d (λ _. refl))
 
       expanded-turn : Turns (closeExpandedEmpty r last)
       unfolding closeExpandedEmpty withDepth

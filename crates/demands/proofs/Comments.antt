@@ -1,0 +1,47 @@
+-- Which comments a call refuses, in the words of document 01. Any document, any lent stack, any state. Assumes nothing.
+use Prim.Native.Nat.{ℕ}
+use mathlib.Core.Path.{_≡_, refl, sym, subst}
+use mathlib.Core.List.{List}
+use mathlib.Core.Bool.{Bool, true, false}
+use mathlib.Core.Logic.{_↔_, _⊎_, inl, inr}
+use native.Mathlib.Omega.{arith}
+use borrow.Author.Tests.{eqb-true}
+use Rattle.state.specs.declared.answer.Kind.{Kind}
+use Rattle.state.specs.declared.answer.Answer.{Answer}
+use Rattle.state.specs.declared.run.Reader.{Reader}
+use Rattle.state.specs.declared.run.Step.{Step}
+use Rattle.state.specs.Make.{badState}
+use Rattle.state.specs.Place.{inner}
+use Rattle.state.specs.Values.{kindNumber, valuesOf}
+use Rattle.emit.specs.Bang.{TwoHyphens}
+use Rattle.reader.specs.Sound.{sound}
+use Rattle.reader.specs.Step.{step}
+use Rattle.reader.proofs.Outside.{Commented, step-turn}
+use Rattle.reader.proofs.Rooms.{bad-step}
+use Rattle.demands.specs.Answers.{isComment, isDoubleHyphen}
+
+module _ (doc stack : List ℕ) (r : Reader) where
+  abbrev answer : Answer
+  answer = step doc stack r .answer
+
+  -- 17 says nothing of comments
+  of-bad : Commented doc r (badState r .answer)
+  unfolding badState
+  of-bad = record { refused = λ e. absurd (omega arith); passed = λ e. absurd (omega arith) }
+
+  says : Commented doc r answer
+  says = by (sound doc stack r) refl
+    where
+      by : (t : Bool) → sound doc stack r ≡ t → Commented doc r answer
+      by true e = step-turn doc stack r e .comment
+      by false e = subst (λ (s : Step). Commented doc r (s .answer)) (sym (bad-step doc stack r e)) of-bad
+
+  -- THEOREM: "With `check_comments`, a comment is refused (9) if a content `-` is followed by `-` (the closer's included)", and only then
+  pub a-comment-is-refused-exactly-for-its-hyphens : (isComment answer ≡ true) ⊎ (isDoubleHyphen answer ≡ true)
+      → (isDoubleHyphen answer ≡ true) ↔ ((r .settings .«check_comments» ≡ true) × TwoHyphens doc (inner (valuesOf answer .piece) 4 3))
+  a-comment-is-refused-exactly-for-its-hyphens which = (λ e. says .refused (eqb-true (valuesOf answer .number) 9 e), λ h. by which (h .0) (h .1))
+    where
+      by : (isComment answer ≡ true) ⊎ (isDoubleHyphen answer ≡ true) → r .settings .«check_comments» ≡ true
+          → TwoHyphens doc (inner (valuesOf answer .piece) 4 3) → isDoubleHyphen answer ≡ true
+      by (inl e) on two = absurd (says .passed (eqb-true (valuesOf answer .kind) (kindNumber Kind.Comment) e) on two)
+      by (inr e) on two = e
