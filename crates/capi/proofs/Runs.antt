@@ -8,7 +8,7 @@ use lib.ListN.{length}
 use lib.Dec.{ltb}
 use borrow.Author.Tests.{eq-eqb, ltb-true, ltb-false}
 use Rattle.ground.specs.Choose.{pick}
-use Rattle.ground.specs.Part.{part}
+use Rattle.ground.specs.Part.{part, startOf}
 use Rattle.ground.proofs.Choices.{pick-cases, pick-nlt}
 use Rattle.ground.proofs.Lists.{part-in, part-crossed, part-past, at-end}
 use Rattle.state.specs.declared.config.Config.{Config}
@@ -98,6 +98,17 @@ seventeen-changes-nothing doc stack state answer number stack' state' answer' c 
 
 nothing : (doc : List ℕ) → part doc (length doc) (length doc) ≡ []
 nothing doc = part-in doc (length doc) (length doc) (omega arith) (omega arith) ∙ at-end doc (length doc - length doc)
+
+-- THEOREM: a span's place begins where the part that `reader::content` hands back begins
+pub its-place-is-the-part's : (doc : List ℕ) (s : Span) → placed (length doc) s .from ≡ startOf doc (s .from) (s .to)
+unfolding placed
+its-place-is-the-part's doc s =
+    pick-cases Begins (ltb (s .to) (s .from)) _ _
+    (λ e. rw e refl)
+    (λ e. pick-cases Begins (ltb (length doc) (s .to)) _ _ (λ f. rw (e, f) refl) (λ f. rw (e, f) refl))
+  where
+    Begins : Span → Type 0
+    Begins t = t .from ≡ startOf doc (s .from) (s .to)
 
 -- THEOREM: the bytes of a span are those of its place, which lies in the document
 pub content-is-at-its-place : (doc : List ℕ) (s : Span)

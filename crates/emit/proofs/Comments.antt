@@ -41,9 +41,7 @@ module _ (doc : List ℕ) (r : Reader) (piece content : Span) where
 
 module _ (doc : List ℕ) (r : Reader) (piece : Span) where
   abbrev Wanted : Step → Type 0
-  Wanted s =
-      (numberOf s ≡ 9)
-      ↔ ((begins (drop (piece .from) doc) commentOpener ≡ true) × (r .settings .«check_comments» ≡ true) × TwoHyphens doc (inner piece 4 3))
+  Wanted s = (numberOf s ≡ 9) ↔ ((begins (drop (piece .from) doc) commentOpener ≡ true) × (r .settings .«check_comments» ≡ true) × TwoHyphens doc (inner piece 4 3))
 
   -- THEOREM: "With `check_comments`, a comment is refused (9) if a content `-` is followed by `-`", and only then; a comment opens `<!--`
   pub a-comment-is-refused-exactly-for-two-hyphens : (valuesOf (emitComment doc r piece .answer) .number ≡ 9)

@@ -2,3 +2,4 @@ pub mod Choices
 pub mod Lists
 pub mod First
 pub mod Equal
+pub mod Parts

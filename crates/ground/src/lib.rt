@@ -2,7 +2,7 @@
 ghost use mathlib.Core.Path.{_≡_};
 ghost use lib.ListN.{getD, drop};
 ghost use Rattle.ground.specs.Equal.{begins, same as sameOf};
-ghost use Rattle.ground.specs.Part.{part as partOf};
+ghost use Rattle.ground.specs.Part.{PartOf};
 
 // The byte at `i`; 0 at the end or past it.
 pub fn byte_at(s: &[u8], i: usize) -> u8
@@ -16,7 +16,7 @@ pub fn byte_at(s: &[u8], i: usize) -> u8
 
 // The bytes from `from` up to `to`; the empty part at the end where that span does not lie in the slice.
 pub fn part(s: &[u8], from: usize, to: usize) -> &[u8]
-    ensures { λ r. ⌜ now r ≡ partOf (now (s .entry)) from to ⌝ }
+    ensures { λ r. ⌜ PartOf (s .entry) from to r ⌝ }
 {
     if to < from {
         return &s[s.len()..];

@@ -9,8 +9,7 @@ use ground::part;
 use state::place::Span;
 use state::run::Reader;
 use state::run::Step;
-ghost use mathlib.Core.Path.{_≡_};
-ghost use Rattle.ground.specs.Part.{part as partOf};
+ghost use Rattle.ground.specs.Part.{PartOf};
 ghost use Rattle.reader.specs.Step.{Stepped};
 
 // The next answer, and the reader after it. `document` and `stack` are those of the calls before; the stack holds the open names, two slots to a name, and a
@@ -27,7 +26,7 @@ pub fn advance(reader: Reader, document: &[u8], stack: &mut [usize]) -> Step
 
 // The bytes of a span, as a part of the caller's own document; the empty part at its end for a span that does not lie in it.
 pub fn content(document: &[u8], span: Span) -> &[u8]
-    ensures { λ r. ⌜ now r ≡ partOf (now (document .entry)) (span .from) (span .to) ⌝ }
+    ensures { λ r. ⌜ PartOf (document .entry) (span .from) (span .to) r ⌝ }
 {
     part(document, span.from, span.to)
 }

@@ -12,11 +12,11 @@ place-fits : tie.Need-add-t6
 place-fits c =
     let s = c .before .before .before in
     let h = place-within (now (s .args .document)) (s .args .from) (s .args .pair) (s .pre .0) (s .pre .1) in
-    omega (arith, h, c .since-hyphen .ensures ∙ ap (since 0) (c .before .part .ensures))
+    omega (arith, h, c .since-hyphen .ensures ∙ ap (since 0) (c .before .part .ensures .bytes))
 
 returns : tie.Need-returns
 unfolding hyphenPlace
-returns c = simp (← c .before .part .ensures, ← c .since-hyphen .ensures)
+returns c = simp (← c .before .part .ensures .bytes, ← c .since-hyphen .ensures)
 
 pub hyphen-place-spec : {M : Type 1} → statement M
 hyphen-place-spec = tie.close (tie.spec (λ c κs. search needs) (λ c κs. search needs) place-fits returns)

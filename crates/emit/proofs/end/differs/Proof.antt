@@ -6,7 +6,7 @@ use Rattle.emit.proofs.end.differs.Tie as tie
 
 returns : tie.Need-returns
 unfolding differs
-returns c = simp (← c .same .ensures, ← c .before .part2 .ensures, ← c .before .before .part .ensures, c .before .before .before .if1 .taken)
+returns c = simp (← c .same .ensures, ← c .before .part2 .ensures .bytes, ← c .before .before .part .ensures .bytes, c .before .before .before .if1 .taken)
 
 returns-2 : tie.Need-returns-2
 unfolding differs
