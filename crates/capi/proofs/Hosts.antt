@@ -4,11 +4,10 @@ use native.Mathlib.Omega.{arith}
 use mathlib.Core.Path.{_≡_, refl, sym, ap, ap₂, _∙_, subst}
 use mathlib.Core.Bool.{Bool, true, false}
 use mathlib.Core.List.{List, [], _∷_, map}
-use lib.ListN.{length, getD, take}
+use lib.ListN.{length, getD, take, replicate}
 use lib.Seq.{getD-take}
 use lib.Dec.{eqb}
 use Rattle.ground.proofs.Choices.{pick-nlt}
-use Rattle.state.specs.declared.config.Config.{Config}
 use Rattle.state.specs.declared.answer.Kind.{Kind}
 use Rattle.state.specs.declared.answer.Answer.{Answer}
 use Rattle.state.specs.declared.answer.Values.{Values}
@@ -21,7 +20,7 @@ use Rattle.demands.specs.Answers.{isMismatch, count, latestIs}
 use Rattle.demands.specs.Run.{World, said, call, run}
 use Rattle.demands.proofs.Demand3.{starts-are-ends-mismatches-and-open, as-many-as-the-depth}
 use Rattle.demands.proofs.Joined.{latest-eof}
-use Rattle.capi.specs.Numbers.{configOf, stateSlots, valuesNumbers, answerSlots}
+use Rattle.capi.specs.Numbers.{configOf, valuesNumbers, answerSlots}
 use Rattle.capi.specs.Slots.{put}
 use Rattle.capi.specs.Calls.{madeNumber, Called}
 use Rattle.capi.specs.Hosts.{Heard, Host, HostCalls, none, more, numbersHeard, numbersTold, heardKind, heardNumber, namesOpen}
@@ -55,17 +54,15 @@ module _ (doc stack : List ℕ) (settings : ℕ) where
       let slots : take answerSlots answer' ≡ valuesNumbers (valuesOf (said doc w)) = ap (take answerSlots) (t .values) ∙ written-first answer (valuesOf (said doc w)) room in
       (m .0, record { stack = t .stack; state = t .state; heard = ap₂ _∷_ (ap₂ _∷_ (t .number) slots) (m .1 .heard) })
 
--- THEOREM: over a document within the limit, with room for a state and an answer, a host can make n calls, for any n
-pub a-host-can-call : (doc stack lent answer : List ℕ) (settings : ℕ) → length doc ≤ longest → stateSlots ≤ length lent → answerSlots ≤ length answer
-    → (n : ℕ) → (h : Host) × HostCalls doc stack settings n h
+-- THEOREM: over a document within the limit a host can make n calls, for any n
+pub a-host-can-call : (doc stack : List ℕ) (settings : ℕ) → length doc ≤ longest → (n : ℕ) → (h : Host) × HostCalls doc stack settings n h
 unfolding made
-a-host-can-call doc stack lent answer settings short l room zero =
-    let c : Config = configOf settings in
-    let e : Made.Fresh (fresh (length doc) c) ≡ made (length doc) c = pick-nlt _ _ _ _ _ short refl in
-    (_, none {lent = lent} (record { said = pick-nlt _ _ _ _ _ l (ap madeNumber e); slots = refl }))
-a-host-can-call doc stack lent answer settings short l room (suc n) =
-    let before = a-host-can-call doc stack lent answer settings short l room n in
-    (_, more {answer = answer} (before .1) room (record { said = refl; names = refl; reader = refl; slots = refl }))
+a-host-can-call doc stack settings short zero =
+    let e : Made.Fresh (fresh (length doc) (configOf settings)) ≡ made (length doc) (configOf settings) = pick-nlt _ _ _ _ _ short refl in
+    (_, none {lent = replicate answerSlots 0} (record { said = ap madeNumber e; slots = refl }))
+a-host-can-call doc stack settings short (suc n) =
+    let before = a-host-can-call doc stack settings short n in
+    (_, more {answer = replicate answerSlots 0} (before .1) (omega arith) (record { said = refl; names = refl; reader = refl; slots = refl }))
 
 -- ---- what is told in numbers is told of answers
 
