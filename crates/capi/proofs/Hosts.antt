@@ -23,15 +23,9 @@ use Rattle.demands.proofs.Joined.{latest-eof}
 use Rattle.capi.specs.Numbers.{configOf, valuesNumbers, answerSlots}
 use Rattle.capi.specs.Slots.{put}
 use Rattle.capi.specs.Calls.{madeNumber, Called}
-use Rattle.capi.specs.Hosts.{Heard, Host, HostCalls, none, more, numbersHeard, numbersTold, heardKind, heardNumber, namesOpen}
+use Rattle.capi.specs.Hosts.{Heard, Host, HostCalls, none, more, numbersHeard, numbersTold, heardKind, heardNumber, namesOpen, Holds, Follows}
 use Rattle.capi.proofs.Rounds.{holds}
-use Rattle.capi.proofs.Runs.{Holds, a-host's-reader-is-a-run's, a-host's-call-is-the-run's}
-
--- a host stands where a run stands: the same stack, a state that holds its reader, and the numbers of its answers
-pub record Follows (w : World) (h : Host) : Type 0 where
-  pub stack : h .stack ≡ w .stack
-  pub state : Holds (h .state) (w .reader)
-  pub heard : map numbersHeard (h .heard) ≡ map numbersTold (w .answers)
+use Rattle.capi.proofs.Runs.{a-host's-reader-is-a-run's, a-host's-call-is-the-run's}
 
 -- the numbers that are written are the first ones
 written-first : (answer : List ℕ) (v : Values) → answerSlots ≤ length answer → take answerSlots (put answer (valuesNumbers v)) ≡ valuesNumbers v

@@ -26,11 +26,8 @@ use Rattle.capi.specs.declared.slots.Held.{Held}
 use Rattle.capi.specs.Numbers.{configOf, stateNumbers, stateSlots, valuesNumbers, answerSlots, heldOf}
 use Rattle.capi.specs.Slots.{put, placed}
 use Rattle.capi.specs.Calls.{badNumber, madeNumber, madeState, Opened, lentTo, Called}
+use Rattle.capi.specs.Hosts.{Holds}
 use Rattle.capi.proofs.Rounds.{holds, what-is-stored-is-held, what-is-held-is-stored}
-
--- what a host holds: the slots of its state hold this reader
-abbrev pub Holds : List ℕ → Reader → Type 0
-Holds state r = heldOf state ≡ Held.Reader r
 
 -- a 0 is no refusal of what is lent
 zero-told : (t : Bool) (n : ℕ) → 0 ≡ pick t badNumber n → (t ≡ false) × (0 ≡ n)

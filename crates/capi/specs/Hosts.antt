@@ -1,13 +1,17 @@
 -- A host's calls, one after the other: each on the stack and the state that the call before left, over one document.
 use Prim.Native.Nat.{ℕ, zero, suc, _≤_}
+use mathlib.Core.Path.{_≡_}
 use mathlib.Core.Bool.{Bool}
-use mathlib.Core.List.{List, [], _∷_}
+use mathlib.Core.List.{List, [], _∷_, map}
 use lib.ListN.{length, getD, take}
 use lib.Dec.{eqb}
 use Rattle.state.specs.declared.answer.Kind.{Kind}
 use Rattle.state.specs.declared.answer.Answer.{Answer}
+use Rattle.state.specs.declared.run.Reader.{Reader}
 use Rattle.state.specs.Values.{kindNumber, valuesOf}
-use Rattle.capi.specs.Numbers.{valuesNumbers, answerSlots}
+use Rattle.demands.specs.Run.{World}
+use Rattle.capi.specs.declared.slots.Held.{Held}
+use Rattle.capi.specs.Numbers.{valuesNumbers, answerSlots, heldOf}
 use Rattle.capi.specs.Calls.{Opened, Called}
 
 -- what a call tells a host: the number that is answered, and what the answer's slots hold then
@@ -44,3 +48,13 @@ heardNumber number x = eqb (x .number) number
 
 abbrev pub namesOpen : Host → ℕ
 namesOpen h = getD (h .state) 2 0
+
+-- the slots of a state hold this reader
+abbrev pub Holds : List ℕ → Reader → Type 0
+Holds state r = heldOf state ≡ Held.Reader r
+
+-- a host stands where a run stands: the same stack, a state that holds its reader, and the numbers of its answers
+pub record Follows (w : World) (h : Host) : Type 0 where
+  pub stack : h .stack ≡ w .stack
+  pub state : Holds (h .state) (w .reader)
+  pub heard : map numbersHeard (h .heard) ≡ map numbersTold (w .answers)
