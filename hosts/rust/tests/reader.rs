@@ -2,6 +2,7 @@
 
 mod common;
 
+use common::Numbers;
 use sporebasket::{Error, Event, Reader};
 use std::thread;
 
@@ -121,19 +122,6 @@ fn shown_for_debugging() {
     let event = reader.read_event().unwrap();
     assert_eq!(format!("{event:?}"), "Start(BytesStart(\"a\" at 0..3))");
     assert!(format!("{reader:?}").starts_with("Reader { phase: InsideText, position: 3, depth: 1, length: 3, "));
-}
-
-/// Numbers that look random, the same in every run.
-struct Numbers(u64);
-
-impl Numbers {
-    fn below(&mut self, bound: usize) -> usize {
-        self.0 = self
-            .0
-            .wrapping_mul(6364136223846793005)
-            .wrapping_add(1442695040888963407);
-        (self.0 >> 33) as usize % bound
-    }
 }
 
 const PIECES: &[&[u8]] = &[

@@ -3,15 +3,12 @@
 
 mod common;
 
+use common::{told, PHASES};
 use sporebasket::{lent, Config, Reader};
 use std::fs;
 
 const RECORDED: &str = concat!(env!("CARGO_MANIFEST_DIR"), "/../../crates/cases/stdout");
 
-const PHASES: [&str; 6] = ["init", "text", "markup", "ref", "empty", "done"];
-const KINDS: [&str; 10] = [
-    "start", "end", "empty", "text", "ref", "comment", "cdata", "decl", "pi", "eof",
-];
 const LETTERS: [char; 8] = ['a', 'u', 'c', 'n', 'x', 'm', 's', 'e'];
 
 /// The cases of this word: the words of the line, and the lines below it.
@@ -61,17 +58,7 @@ fn number(text: &str) -> usize {
 fn settings(letters: &str) -> usize {
     let mut config = Config::default();
     common::set(&mut config, letters);
-    let flags = [
-        config.allow_dangling_amp,
-        config.allow_unmatched_ends,
-        config.check_comments,
-        config.check_end_names,
-        config.expand_empty_elements,
-        config.trim_markup_names_in_closing_tags,
-        config.trim_text_start,
-        config.trim_text_end,
-    ];
-    flags.iter().enumerate().map(|(i, on)| usize::from(*on) << i).sum()
+    common::settings(&config)
 }
 
 /// The letters that turn the defaults to these settings.
@@ -82,25 +69,6 @@ fn letters(settings: usize) -> String {
         0 => "-".into(),
         _ => (0..8).filter(on).map(|i| LETTERS[i]).collect(),
     }
-}
-
-/// An answer's numbers in words.
-fn told(answer: &[usize]) -> String {
-    if answer[0] != 0 {
-        let word = KINDS[answer[0] - 1];
-        return format!(
-            "{word} {} {} {} {} {}",
-            answer[3], answer[4], answer[5], answer[6], answer[7]
-        );
-    }
-    let mut said = format!("refused {} {} piece {}..{}", answer[1], answer[2], answer[3], answer[4]);
-    if answer[1] == 10 {
-        said += &format!(" expected {}..{}", answer[8], answer[9]);
-    }
-    if answer[1] == 10 || answer[1] == 11 {
-        said += &format!(" found {}..{}", answer[10], answer[11]);
-    }
-    said
 }
 
 #[test]

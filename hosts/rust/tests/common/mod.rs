@@ -5,6 +5,11 @@
 use sporebasket::{Config, Event, Phase, Reader};
 use std::ops::Range;
 
+pub const PHASES: [&str; 6] = ["init", "text", "markup", "ref", "empty", "done"];
+const KINDS: [&str; 10] = [
+    "start", "end", "empty", "text", "ref", "comment", "cdata", "decl", "pi", "eof",
+];
+
 pub fn word(event: &Event) -> &'static str {
     match event {
         Event::Start(_) => "start",
@@ -56,6 +61,25 @@ pub fn answer(reader: &mut Reader) -> String {
             said
         }
     }
+}
+
+/// An answer's numbers in words.
+pub fn told(answer: &[usize]) -> String {
+    if answer[0] != 0 {
+        let word = KINDS[answer[0] - 1];
+        return format!(
+            "{word} {} {} {} {} {}",
+            answer[3], answer[4], answer[5], answer[6], answer[7]
+        );
+    }
+    let mut said = format!("refused {} {} piece {}..{}", answer[1], answer[2], answer[3], answer[4]);
+    if answer[1] == 10 {
+        said += &format!(" expected {}..{}", answer[8], answer[9]);
+    }
+    if answer[1] == 10 || answer[1] == 11 {
+        said += &format!(" found {}..{}", answer[10], answer[11]);
+    }
+    said
 }
 
 /// Where a part of the document stands in it.
@@ -113,5 +137,33 @@ pub fn set(config: &mut Config, letters: &str) {
             'K' | 'k' => config.enable_all_checks(letter == 'K'),
             other => panic!("no setting {other}"),
         }
+    }
+}
+
+/// The settings as a number.
+pub fn settings(config: &Config) -> usize {
+    let flags = [
+        config.allow_dangling_amp,
+        config.allow_unmatched_ends,
+        config.check_comments,
+        config.check_end_names,
+        config.expand_empty_elements,
+        config.trim_markup_names_in_closing_tags,
+        config.trim_text_start,
+        config.trim_text_end,
+    ];
+    flags.iter().enumerate().map(|(i, on)| usize::from(*on) << i).sum()
+}
+
+/// Numbers that look random, the same in every run.
+pub struct Numbers(pub u64);
+
+impl Numbers {
+    pub fn below(&mut self, bound: usize) -> usize {
+        self.0 = self
+            .0
+            .wrapping_mul(6364136223846793005)
+            .wrapping_add(1442695040888963407);
+        (self.0 >> 33) as usize % bound
     }
 }
