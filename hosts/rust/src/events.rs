@@ -52,6 +52,7 @@ pub enum Event<'a> {
 
 impl<'a> Event<'a> {
     /// The event of this kind; 10 is the last.
+    #[inline]
     pub(crate) fn of_kind(kind: usize, part: Part<'a>) -> Self {
         match kind {
             1 => Event::Start(BytesStart(part)),
@@ -77,6 +78,7 @@ impl<'a> Event<'a> {
     /// assert_eq!(Event::Eof.part(), None);
     /// # Ok::<(), sporebasket::Error>(())
     /// ```
+    #[inline]
     pub fn part(&self) -> Option<Part<'a>> {
         match self {
             Event::Start(tag) | Event::Empty(tag) => Some(tag.0),
@@ -98,6 +100,7 @@ impl<'a> Event<'a> {
     /// assert_eq!(Reader::from_str("<!--a-->").read_event()?.as_bytes(), b"a");
     /// # Ok::<(), sporebasket::Error>(())
     /// ```
+    #[inline]
     pub fn as_bytes(&self) -> &'a [u8] {
         self.part().map_or(&[], |part| part.bytes)
     }
@@ -200,11 +203,13 @@ impl<'a> Part<'a> {
     /// assert_eq!(declaration.name_len(), 3);
     /// # Ok::<(), sporebasket::Error>(())
     /// ```
+    #[inline]
     pub fn name_len(&self) -> usize {
         self.name.min(self.bytes.len())
     }
 
     /// The name, and what follows it.
+    #[inline]
     fn cut(&self) -> (&'a [u8], &'a [u8]) {
         self.bytes.split_at(self.name_len())
     }
@@ -359,6 +364,7 @@ impl<'a> BytesStart<'a> {
     /// assert_eq!(tag.name(), b"a");
     /// # Ok::<(), sporebasket::Error>(())
     /// ```
+    #[inline]
     pub fn name(&self) -> &'a [u8] {
         self.0.cut().0
     }
@@ -372,6 +378,7 @@ impl<'a> BytesStart<'a> {
     /// assert_eq!(tag.attributes_raw(), b" b='>'");
     /// # Ok::<(), sporebasket::Error>(())
     /// ```
+    #[inline]
     pub fn attributes_raw(&self) -> &'a [u8] {
         self.0.cut().1
     }
@@ -389,6 +396,7 @@ impl<'a> BytesEnd<'a> {
     /// assert_eq!(tag.name(), b"a");
     /// # Ok::<(), sporebasket::Error>(())
     /// ```
+    #[inline]
     pub fn name(&self) -> &'a [u8] {
         self.0.cut().0
     }
@@ -404,6 +412,7 @@ impl<'a> BytesPI<'a> {
     /// assert_eq!(instruction.target(), b"print");
     /// # Ok::<(), sporebasket::Error>(())
     /// ```
+    #[inline]
     pub fn target(&self) -> &'a [u8] {
         self.0.cut().0
     }
@@ -417,6 +426,7 @@ impl<'a> BytesPI<'a> {
     /// assert_eq!(instruction.after_target(), b" no");
     /// # Ok::<(), sporebasket::Error>(())
     /// ```
+    #[inline]
     pub fn after_target(&self) -> &'a [u8] {
         self.0.cut().1
     }

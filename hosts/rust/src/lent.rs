@@ -74,6 +74,7 @@ pub fn new(document: &[u8], settings: usize, state: &mut [usize]) -> usize {
 /// assert_eq!(lent::read_event(b"<a/>", &mut [], &mut state, &mut answer), 17);
 /// assert_eq!(state, [1, 9, 0, 4, 40]);
 /// ```
+#[inline]
 pub fn read_event(document: &[u8], stack: &mut [usize], state: &mut [usize], answer: &mut [usize]) -> usize {
     // SAFETY: pointers and counts are those of slices, so no pointer is null; the three that are written to are lent exclusively, so they
     // overlap neither with each other nor with the document.

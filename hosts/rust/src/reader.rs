@@ -3,7 +3,7 @@
 use crate::errors::{Error, Names};
 use crate::events::{Event, Part};
 use crate::lent;
-use crate::raw::{answer, state, ANSWER_SLOTS, MOST_NAMES, NAME_SLOTS, PART_SLOTS, STATE_SLOTS};
+use crate::raw::{answer, state, ANSWER_SLOTS, MOST_NAMES, NAME_SLOTS, STATE_SLOTS};
 use std::fmt;
 use std::ops::Range;
 
@@ -33,10 +33,15 @@ pub use crate::config::Config;
 pub struct Reader<'a> {
     document: &'a [u8],
     config: Config,
-    /// 0, or the number of the refusal to make a reader.
+    /// 0, or the number of the refusal to make a reader. Then the state holds none, and the archive refuses every call.
     made: usize,
     state: [usize; STATE_SLOTS],
-    stack: Box<[usize]>,
+    /// The open names, with some room to spare while there may be more of them.
+    stack: Vec<usize>,
+    /// How many names may be open.
+    names: usize,
+    /// The depth at which a call is to be prepared: where the stack is full and may grow, or at once, if the settings may have changed.
+    pause: usize,
     answer: [usize; ANSWER_SLOTS],
     error_position: usize,
 }
@@ -96,7 +101,7 @@ impl<'a> Reader<'a> {
         Reader::from_reader(document.as_bytes())
     }
 
-    /// A reader with room for fewer open names, which takes 16 bytes for each.
+    /// A reader with room for fewer open names, which takes at most 16 bytes for each.
     ///
     /// ```
     /// use sporebasket::{Error, Reader};
@@ -114,7 +119,9 @@ impl<'a> Reader<'a> {
             config,
             made,
             state,
-            stack: vec![0; names.min(MOST_NAMES) * NAME_SLOTS].into_boxed_slice(),
+            stack: Vec::new(),
+            names: names.min(MOST_NAMES),
+            pause: 0,
             answer: [0; ANSWER_SLOTS],
             error_position: 0,
         }
@@ -141,6 +148,7 @@ impl<'a> Reader<'a> {
     /// # Ok::<(), sporebasket::Error>(())
     /// ```
     pub fn config_mut(&mut self) -> &mut Config {
+        self.pause = self.depth();
         &mut self.config
     }
 
@@ -155,21 +163,19 @@ impl<'a> Reader<'a> {
     /// assert_eq!(reader.read_event()?, Event::Eof);
     /// # Ok::<(), Error>(())
     /// ```
+    #[inline]
     pub fn read_event(&mut self) -> Result<Event<'a>, Error> {
-        if self.made != 0 {
-            return Err(self.refused(self.made));
+        if self.depth() == self.pause {
+            self.prepare();
         }
-        self.state[state::SETTINGS] = self.config.bits();
         let number = lent::read_event(self.document, &mut self.stack, &mut self.state, &mut self.answer);
         if number != 0 {
-            self.error_position = self.answer[answer::PLACE];
             return Err(self.refused(number));
         }
-        let (content, bytes) = self.part(answer::CONTENT);
         let part = Part {
-            bytes,
+            bytes: self.bytes(answer::CONTENT),
             piece: self.span(answer::PIECE),
-            content,
+            content: self.answer[answer::CONTENT],
             name: self.answer[answer::NAME],
         };
         Ok(Event::of_kind(self.answer[answer::KIND], part))
@@ -250,6 +256,7 @@ impl<'a> Reader<'a> {
     /// assert_eq!(reader.depth(), 1);
     /// # Ok::<(), sporebasket::Error>(())
     /// ```
+    #[inline]
     pub fn depth(&self) -> usize {
         self.state[state::DEPTH]
     }
@@ -300,26 +307,48 @@ impl<'a> Reader<'a> {
     }
 
     /// A span of the last answer.
+    #[inline]
     fn span(&self, slot: usize) -> (usize, usize) {
         (self.answer[slot], self.answer[slot + 1])
     }
 
-    /// A span of the last answer as a part of the document: where it begins, and its bytes.
-    fn part(&self, slot: usize) -> (usize, &'a [u8]) {
+    /// The bytes of a span of the last answer. It lies in the document.
+    #[inline]
+    fn bytes(&self, slot: usize) -> &'a [u8] {
         let (from, to) = self.span(slot);
-        let mut part = [0; PART_SLOTS];
-        lent::content(self.document, from, to, &mut part);
-        let bytes = self.document.get(part[0]..part[1]);
-        (part[0], bytes.unwrap_or_default())
+        self.document.get(from..to).unwrap_or_default()
     }
 
-    /// The refusal of this number, with the names of the last answer.
-    fn refused(&self, number: usize) -> Error {
-        let (_, expected) = self.part(answer::EXPECTED);
-        let (_, found) = self.part(answer::FOUND);
-        Error::numbered(number, Names { expected, found })
+    /// Puts the settings into the state, and makes a full stack larger, if there may be more names.
+    ///
+    /// A call opens one name at most. So with room for one more it answers as with room for all, and a name is refused for lack of room (15)
+    /// only where as many are open as may be.
+    #[cold]
+    fn prepare(&mut self) {
+        self.state[state::SETTINGS] = self.config.bits();
+        let mut room = self.stack.len() / NAME_SLOTS;
+        if self.depth() == room {
+            room = (2 * room).max(FIRST_NAMES).min(self.names);
+            self.stack.reserve_exact(room * NAME_SLOTS - self.stack.len());
+            self.stack.resize(room * NAME_SLOTS, 0);
+        }
+        self.pause = if room < self.names { room } else { usize::MAX };
+    }
+
+    /// The refusal of this number, or the one to make this reader, with the names of the last answer.
+    #[cold]
+    fn refused(&mut self, number: usize) -> Error {
+        self.error_position = self.answer[answer::PLACE];
+        let names = Names {
+            expected: self.bytes(answer::EXPECTED),
+            found: self.bytes(answer::FOUND),
+        };
+        Error::numbered(if self.made == 0 { number } else { self.made }, names)
     }
 }
+
+/// How many names a reader has room for at its first call, if it may have as many.
+const FIRST_NAMES: usize = 32;
 
 /// The refusals that tell names.
 const MISMATCHED: usize = 10;
@@ -334,5 +363,23 @@ impl fmt::Debug for Reader<'_> {
             .field("length", &self.document.len())
             .field("config", &self.config)
             .finish_non_exhaustive()
+    }
+}
+
+#[cfg(test)]
+mod tests {
+    use super::{Event, Reader, FIRST_NAMES, NAME_SLOTS};
+
+    #[test]
+    fn room_for_the_names_that_are_open_and_no_more_than_was_asked_for() {
+        let document = "<a>".repeat(100);
+        for names in [0, 1, 2, 31, 32, 33, 65, 100, 4096] {
+            let mut reader = Reader::with_capacity(document.as_bytes(), names);
+            assert_eq!(reader.stack.capacity(), 0);
+            while reader.read_event() != Ok(Event::Eof) {
+                let room = (2 * reader.depth()).max(FIRST_NAMES).min(names);
+                assert!(reader.stack.capacity() <= room * NAME_SLOTS);
+            }
+        }
     }
 }
