@@ -1,0 +1,36 @@
+//! The Rust package `hosts/rust`, as a user has it: a reader for each document.
+
+use super::{kind, Runner, Settings, Tally};
+use sporebasket::{Event, Reader};
+
+pub struct Package;
+
+impl Runner for Package {
+    fn name(&self) -> &str {
+        "hosts/rust"
+    }
+
+    fn run(&mut self, document: &[u8], settings: Settings) -> Tally {
+        let mut reader = Reader::from_reader(document);
+        let config = reader.config_mut();
+        config.trim_text(settings.trim_text);
+        config.allow_dangling_amp = settings.allow_dangling_amp;
+        config.check_comments = settings.check_comments;
+        let mut tally = Tally::default();
+        loop {
+            match reader.read_event() {
+                Ok(Event::Start(e)) => tally.event(kind::START, e.len()),
+                Ok(Event::End(e)) => tally.event(kind::END, e.len()),
+                Ok(Event::Empty(e)) => tally.event(kind::EMPTY, e.len()),
+                Ok(Event::Text(e)) => tally.event(kind::TEXT, e.len()),
+                Ok(Event::GeneralRef(e)) => tally.event(kind::REF, e.len()),
+                Ok(Event::Comment(e)) => tally.event(kind::COMMENT, e.len()),
+                Ok(Event::CData(e)) => tally.event(kind::CDATA, e.len()),
+                Ok(Event::Decl(e)) => tally.event(kind::DECL, e.len()),
+                Ok(Event::PI(e)) => tally.event(kind::PI, e.len()),
+                Ok(Event::Eof) => return tally,
+                Err(_) => tally.refusal(document),
+            }
+        }
+    }
+}

@@ -1,0 +1,69 @@
+//! The table: every column beside the crate, on every input.
+
+use crate::clock::{least, median, rounds, Row, Samples};
+use crate::grid::{self, grouped};
+use crate::inputs;
+use crate::runners::{Runner, Settings, Tally};
+
+pub const LENGTH: usize = 65_536;
+
+/// The inputs under the default settings, and the indented one trimmed.
+fn rows() -> Vec<Row> {
+    let default = inputs::ALL.iter().map(|input| (input, Settings::default(), ""));
+    let trimmed = inputs::ALL.iter().filter(|input| input.name == "netex");
+    let trimmed = trimmed.map(|input| (input, Settings { trim_text: true, ..Settings::default() }, ", trimmed"));
+    default
+        .chain(trimmed)
+        .map(|(input, settings, how)| Row { name: format!("{}{how}", input.name), document: (input.make)(LENGTH), settings })
+        .collect()
+}
+
+/// Reads the row once by every runner that answers as the first one does: they tell the same, or which one does not.
+pub fn told(row: &Row, runners: &mut [Box<dyn Runner>]) -> Result<Tally, String> {
+    let first = runners[0].run(&row.document, row.settings);
+    for runner in runners.iter_mut().filter(|runner| runner.is_alike()) {
+        let tally = runner.run(&row.document, row.settings);
+        if tally != first {
+            return Err(format!("{} tells {tally:?} of {}, which is {first:?}", runner.name(), row.name));
+        }
+    }
+    Ok(first)
+}
+
+/// Measures and prints. The first runner is the one that the others are held to.
+pub fn run(runners: &mut [Box<dyn Runner>], count: usize) -> Result<(), String> {
+    let rows = rows();
+    let tallies = rows.iter().map(|row| told(row, runners)).collect::<Result<Vec<_>, _>>()?;
+    let samples = rounds(&rows, runners, count);
+    println!("rounds:    {count}, each runner once on each input in each");
+    println!();
+    let mut head = vec!["input", "bytes", "events", "quick-xml µs", "ns an event", "ns a byte"];
+    head.extend(runners[1..].iter().map(|runner| runner.name()));
+    let lines: Vec<_> = rows.iter().zip(tallies).zip(&samples).map(|((row, tally), samples)| line(row, tally, samples)).collect();
+    grid::print(&head, &lines);
+    println!();
+    println!("The columns behind the crate's are ratios to its time: least time over least time / the median of the rounds' ratios.");
+    Ok(())
+}
+
+fn line(row: &Row, tally: Tally, samples: &[Samples]) -> Vec<String> {
+    let time = least(&samples[0]);
+    let mut cells = vec![
+        row.name.clone(),
+        grouped(row.document.len()),
+        grouped(tally.answers),
+        format!("{:.1}", time / 1000.0),
+        format!("{:.1}", time / tally.answers as f64),
+        format!("{:.3}", time / row.document.len() as f64),
+    ];
+    cells.extend(samples[1..].iter().map(|ours| ratios(&samples[0], ours)));
+    cells
+}
+
+fn ratios(theirs: &[f64], ours: &[f64]) -> String {
+    if ours.is_empty() {
+        return "-".into();
+    }
+    let of_rounds = ours.iter().zip(theirs).map(|(ours, theirs)| ours / theirs).collect();
+    format!("{:.2} / {:.2}", least(ours) / least(theirs), median(of_rounds))
+}
