@@ -61,7 +61,9 @@ pub fn least(samples: &[f64]) -> f64 {
     samples.iter().copied().fold(f64::INFINITY, f64::min)
 }
 
-pub fn median(mut samples: Samples) -> f64 {
-    samples.sort_by(f64::total_cmp);
-    samples[samples.len() / 2]
+/// The median of the rounds' ratios.
+pub fn ratio(samples: &[f64], to: &[f64]) -> f64 {
+    let mut ratios: Vec<f64> = samples.iter().zip(to).map(|(sample, to)| sample / to).collect();
+    ratios.sort_by(f64::total_cmp);
+    ratios[ratios.len() / 2]
 }

@@ -10,7 +10,7 @@ const LOCK: &str = include_str!("../Cargo.lock");
 
 pub fn print() {
     let cores = available_parallelism().map_or(1, usize::from);
-    println!("processor: {}, {ARCH}, {cores} at hand", processor().unwrap_or("unknown".into()));
+    println!("processor: {}, {ARCH}, {cores} processors at hand", processor().unwrap_or("unknown".into()));
     println!("compiler:  {}", said_by("rustc", &["--version"]).unwrap_or("rustc".into()).trim());
     println!("memchr:    {}, {}", memchr_version().unwrap_or("unknown"), memchr_uses());
 }

@@ -2,12 +2,15 @@
 
 #![deny(unsafe_code)]
 
+mod check;
 mod clock;
 mod grid;
+mod growth;
 mod inputs;
 mod machine;
 mod runners;
 mod table;
+mod worst;
 
 use runners::archive::{Archive, Linked};
 use runners::shared::Shared;
@@ -16,32 +19,40 @@ use std::path::{Path, PathBuf};
 use std::process::ExitCode;
 use std::{env, fs};
 
-const USAGE: &str = "usage: speed [--quick | --rounds N] [--also NAME=PATH].. | --describe | --write FOLDER";
+const USAGE: &str = "usage: speed [--quick | --rounds N | --growth] [--also NAME=PATH].. | --describe | --write FOLDER";
 
-/// How many rounds there are: enough for the least times to settle, and for a look.
+/// How many rounds there are: enough for the times to settle, and for a look.
 const ROUNDS: usize = 1000;
 const QUICK: usize = 200;
 
 enum Wish {
-    Table { rounds: usize, also: Vec<(String, String)> },
+    Table { rounds: usize, also: Vec<Also> },
+    Growth { also: Vec<Also> },
     Describe,
     Write(PathBuf),
 }
 
+/// Another build of the archive: its column's name, and the shared object.
+struct Also {
+    name: String,
+    path: PathBuf,
+}
+
 fn wish() -> Option<Wish> {
-    let (mut rounds, mut also) = (ROUNDS, Vec::new());
+    let (mut rounds, mut growth, mut also) = (ROUNDS, false, Vec::new());
     let mut arguments = env::args().skip(1);
     while let Some(argument) = arguments.next() {
         match argument.as_str() {
             "--quick" => rounds = QUICK,
             "--rounds" => rounds = arguments.next()?.parse().ok().filter(|&rounds| rounds > 0)?,
-            "--also" => also.push(arguments.next()?.split_once('=').map(|(name, path)| (name.into(), path.into()))?),
+            "--growth" => growth = true,
+            "--also" => also.push(arguments.next()?.split_once('=').map(|(name, path)| Also { name: name.into(), path: path.into() })?),
             "--describe" => return Some(Wish::Describe),
             "--write" => return Some(Wish::Write(arguments.next()?.into())),
             _ => return None,
         }
     }
-    Some(Wish::Table { rounds, also })
+    Some(if growth { Wish::Growth { also } } else { Wish::Table { rounds, also } })
 }
 
 fn main() -> ExitCode {
@@ -50,7 +61,8 @@ fn main() -> ExitCode {
         return ExitCode::from(2);
     };
     let done = match wish {
-        Wish::Table { rounds, also } => table(rounds, &also),
+        Wish::Table { rounds, also } => table(rounds, also),
+        Wish::Growth { also } => growth(also),
         Wish::Describe => {
             inputs::describe();
             Ok(())
@@ -66,11 +78,18 @@ fn main() -> ExitCode {
     }
 }
 
-fn table(rounds: usize, also: &[(String, String)]) -> Result<(), String> {
-    let mut runners: Vec<Box<dyn Runner>> = vec![Box::new(QuickXml), Box::new(Archive::new("ours".into(), Linked)), Box::new(Package)];
-    for (name, path) in also {
-        runners.push(Box::new(Archive::new(name.clone(), Shared::open(path)?)));
+/// The crate, and our functions in each build.
+fn builds(also: Vec<Also>) -> Result<Vec<Box<dyn Runner>>, String> {
+    let mut runners: Vec<Box<dyn Runner>> = vec![Box::new(QuickXml), Box::new(Archive::new("ours".into(), Linked))];
+    for Also { name, path } in also {
+        runners.push(Box::new(Archive::new(name, Shared::open(&path)?)));
     }
+    Ok(runners)
+}
+
+fn table(rounds: usize, also: Vec<Also>) -> Result<(), String> {
+    let mut runners = builds(also)?;
+    runners.push(Box::new(Package));
     #[cfg(feature = "expat")]
     runners.push(Box::new(runners::expat::Expat));
     #[cfg(feature = "libxml2")]
@@ -79,9 +98,17 @@ fn table(rounds: usize, also: &[(String, String)]) -> Result<(), String> {
     table::run(&mut runners, rounds)
 }
 
+fn growth(also: Vec<Also>) -> Result<(), String> {
+    let mut runners = builds(also)?;
+    machine::print();
+    growth::run(&mut runners)
+}
+
 /// Writes the inputs, each to a file of its name.
 fn write(folder: &Path) -> Result<(), String> {
-    let written = |path: &Path, bytes: &[u8]| fs::write(path, bytes).map_err(|error| format!("{}: {error}", path.display()));
     fs::create_dir_all(folder).map_err(|error| format!("{}: {error}", folder.display()))?;
-    inputs::ALL.iter().try_for_each(|input| written(&folder.join(input.name).with_extension("xml"), &(input.make)(table::LENGTH)))
+    inputs::ALL.iter().try_for_each(|input| {
+        let path = folder.join(input.name).with_extension("xml");
+        fs::write(&path, (input.make)(table::LENGTH)).map_err(|error| format!("{}: {error}", path.display()))
+    })
 }

@@ -1,6 +1,7 @@
 //! The table: every column beside the crate, on every input.
 
-use crate::clock::{least, median, rounds, Row, Samples};
+use crate::check::told;
+use crate::clock::{least, ratio, rounds, Row, Samples};
 use crate::grid::{self, grouped};
 use crate::inputs;
 use crate::runners::{Runner, Settings, Tally};
@@ -16,18 +17,6 @@ fn rows() -> Vec<Row> {
         .chain(trimmed)
         .map(|(input, settings, how)| Row { name: format!("{}{how}", input.name), document: (input.make)(LENGTH), settings })
         .collect()
-}
-
-/// Reads the row once by every runner that answers as the first one does: they tell the same, or which one does not.
-pub fn told(row: &Row, runners: &mut [Box<dyn Runner>]) -> Result<Tally, String> {
-    let first = runners[0].run(&row.document, row.settings);
-    for runner in runners.iter_mut().filter(|runner| runner.is_alike()) {
-        let tally = runner.run(&row.document, row.settings);
-        if tally != first {
-            return Err(format!("{} tells {tally:?} of {}, which is {first:?}", runner.name(), row.name));
-        }
-    }
-    Ok(first)
 }
 
 /// Measures and prints. The first runner is the one that the others are held to.
@@ -64,6 +53,5 @@ fn ratios(theirs: &[f64], ours: &[f64]) -> String {
     if ours.is_empty() {
         return "-".into();
     }
-    let of_rounds = ours.iter().zip(theirs).map(|(ours, theirs)| ours / theirs).collect();
-    format!("{:.2} / {:.2}", least(ours) / least(theirs), median(of_rounds))
+    format!("{:.2} / {:.2}", least(ours) / least(theirs), ratio(ours, theirs))
 }

@@ -18,7 +18,9 @@ pub struct Input {
     pub make: fn(usize) -> Vec<u8>,
 }
 
+/// The three of the request come first.
 pub const ALL: [Input; 7] = [timetable::INPUT, longtext::INPUT, comments::INPUT, netex::INPUT, utf8::INPUT, deep::INPUT, cdata::INPUT];
+pub const REQUESTED: usize = 3;
 
 /// What holds for every input.
 pub const RULES: &str = "\

@@ -4,6 +4,7 @@
 use super::archive::Functions;
 use std::ffi::{c_char, c_int, c_void, CStr, CString};
 use std::mem::transmute;
+use std::path::Path;
 
 type New = unsafe extern "C" fn(*const u8, usize, usize, *mut usize, usize) -> usize;
 type ReadEvent = unsafe extern "C" fn(*const u8, usize, *mut usize, usize, *mut usize, usize, *mut usize, usize) -> usize;
@@ -24,8 +25,10 @@ pub struct Shared {
 }
 
 impl Shared {
-    pub fn open(path: &str) -> Result<Self, String> {
-        let path = CString::new(path).map_err(|error| error.to_string())?;
+    pub fn open(path: &Path) -> Result<Self, String> {
+        // dlopen looks for a path without a `/` elsewhere
+        let path = path.canonicalize().map_err(|error| format!("{}: {error}", path.display()))?;
+        let path = CString::new(path.into_os_string().into_encoded_bytes()).map_err(|error| error.to_string())?;
         // SAFETY: the path ends with a 0.
         let object = unsafe { dlopen(path.as_ptr(), NOW) };
         if object.is_null() {
