@@ -10,10 +10,10 @@ use borrow.Author.Tests.{eq-eqb, ne-eqb, le-leb, lt-leb, lt-ltb, le-ltb}
 use Rattle.ground.specs.Choose.{pick}
 
 module _ {A : Type 0} (r x y : A) where
-  by-true : (t : Bool) → t ≡ true → r ≡ x → r ≡ pick t x y
+  pub by-true : (t : Bool) → t ≡ true → r ≡ x → r ≡ pick t x y
   by-true t e f = rw e f
 
-  by-false : (t : Bool) → t ≡ false → r ≡ y → r ≡ pick t x y
+  pub by-false : (t : Bool) → t ≡ false → r ≡ y → r ≡ pick t x y
   by-false t e f = rw e f
 
   module _ (a b : ℕ) where

@@ -1,4 +1,5 @@
 pub mod Machine
+pub mod Passed
 pub mod Element
 pub mod Marks
 pub mod First

@@ -1,7 +1,9 @@
 // The scan for a `>` with marks just before it, which processing instructions, comments and CDATA share.
+use blocks::clear;
 ghost use mathlib.Core.Path.{_≡_};
 ghost use Rattle.parser.specs.Machine.{scanAt};
 ghost use Rattle.parser.specs.Marks.{marksAnswer, marksFound, marksStep, seeing};
+ghost use Rattle.parser.specs.Passed.{Skips};
 
 // Where the scan stands: how many bytes of the opener are yet to pass, and how many marks stand just before, counted up to those needed.
 pub struct Marks {
@@ -43,6 +45,7 @@ fn marks_from(s: &[u8], from: usize, mark: u8, need: usize) -> Found
     let mut i = from;
     let mut seen = 0;
     loop {
+        i += skip(s, i, mark, seen);
         if s.len() <= i {
             break Found::Open(Marks { left: 0, seen });
         }
@@ -61,5 +64,16 @@ fn marks_from(s: &[u8], from: usize, mark: u8, need: usize) -> Found
         } else {
             seen = 0;
         }
+    }
+}
+
+// How many bytes at `at` pass with `seen` marks just before: those up to the next `>` or mark where there are none.
+fn skip(s: &[u8], at: usize, mark: u8, seen: usize) -> usize
+    ensures { λ r. ⌜ Skips mark seen (now (s .entry)) at r ⌝ }
+{
+    if seen == 0 {
+        clear(s, at, b'>', mark, mark)
+    } else {
+        0
     }
 }

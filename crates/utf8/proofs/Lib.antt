@@ -2,3 +2,4 @@ pub mod Table
 pub mod Chars
 pub mod Rfc
 pub mod Turns
+pub mod Ascii

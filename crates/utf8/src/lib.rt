@@ -1,11 +1,13 @@
 // The UTF-8 check (RFC 3629, section 4).
+use blocks::below;
 ghost use mathlib.Core.Path.{_≡_};
 ghost use mathlib.Core.List.{_∷_};
-ghost use Prim.Native.Nat.{_+_};
+ghost use Prim.Native.Nat.{_+_, _-_, _≤_};
 ghost use lib.ListN.{drop, replicate};
 ghost use Rattle.ground.specs.Choose.{pick};
 ghost use Rattle.ground.specs.Part.{part as partOf};
 ghost use Rattle.utf8.specs.Utf8.{utf8Tail, inRanges, charLen, check as checkOf};
+ghost use Rattle.utf8.specs.Ascii.{Ascii, Sure};
 
 // What the check says of bytes: all are well formed, or where the first ill-formed sequence begins. No well-formed character starts there, and all before it
 // is well formed.
@@ -66,24 +68,80 @@ fn char_len(s: &[u8], at: usize) -> usize
     }
 }
 
-// The check of all the bytes.
+// The check of all the bytes: by characters, and by blocks where ASCII goes on.
 fn check_all(s: &[u8]) -> Utf8
     ensures { λ r. ⌜ r ≡ checkOf 0 (now (s .entry)) ⌝ }
 {
     let mut i = 0;
     while i < s.len() {
-        let n = char_len(s, i);
-        if n == 0 {
-            return Utf8::IllFormed(i);
+        if s[i] < 0x80 {
+            i = past_ascii(s, i + 1);
+        } else {
+            let n = char_len(s, i);
+            if n == 0 {
+                return Utf8::IllFormed(i);
+            }
+            i += n;
         }
-        i += n;
     }
     Utf8::WellFormed
+}
+
+// Past blocks of ASCII, from `from` on. (A byte of 127 ends them: to ask for less than 127 takes fewer instructions than for less than 128.)
+fn past_ascii(s: &[u8], from: usize) -> usize
+    ensures { λ r. ⌜ Ascii (now (s .entry)) from r ⌝ }
+{
+    let mut i = from;
+    while below(s, i, 16, 127) {
+        i += 16;
+    }
+    i
 }
 
 // The check of the bytes from `from` up to `to`, with the position counted in the whole slice. A span that does not lie in the
 // slice holds no bytes, and those are well formed.
 pub fn check(s: &[u8], from: usize, to: usize) -> Utf8
+    ensures { λ r. ⌜ r ≡ checkOf from (partOf (now (s .entry)) from to) ⌝ }
+{
+    if plain(s, from, to) {
+        Utf8::WellFormed
+    } else {
+        check_part(s, from, to)
+    }
+}
+
+// Whether the span is ASCII as blocks show it. Those of a short one may end behind it.
+fn plain(s: &[u8], from: usize, to: usize) -> bool
+    ensures { λ r. ⌜ Sure r (now (s .entry)) from to ⌝ }
+{
+    if to < from {
+        false
+    } else if to - from <= 16 {
+        below(s, from, 16, 127)
+    } else if to - from <= 128 {
+        below(s, from, 128, 128)
+    } else {
+        long_plain(s, from, to)
+    }
+}
+
+// The same of a span as long as a block: the last block ends where it ends.
+fn long_plain(s: &[u8], from: usize, to: usize) -> bool
+    requires { ⌜ 128 ≤ to - from ⌝ }
+    ensures { λ r. ⌜ Sure r (now (s .entry)) from to ⌝ }
+{
+    let mut i = from;
+    while 128 <= to - i {
+        if !below(s, i, 128, 128) {
+            return false;
+        }
+        i += 128;
+    }
+    below(s, to - 128, 128, 128)
+}
+
+// The check of a span by its bytes.
+fn check_part(s: &[u8], from: usize, to: usize) -> Utf8
     ensures { λ r. ⌜ r ≡ checkOf from (partOf (now (s .entry)) from to) ⌝ }
 {
     let u = check_all(ground::part(s, from, to));

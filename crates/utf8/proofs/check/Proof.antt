@@ -1,16 +1,7 @@
--- `check` meets its contract: the answer for the part, counted in the whole. Assumes nothing.
-use Rattle.utf8.proofs.Turns.{span-turns}
+-- `check` meets its contract. Assumes nothing.
+use Rattle.utf8.proofs.Ascii.{ascii-turns}
 use Rattle.utf8.proofs.check.Statement.{statement}
 use Rattle.utf8.proofs.check.Tie as tie
 
 pub check-spec : {M : Type 1} → statement M
-check-spec =
-    tie.close
-    (tie.spec
-    (λ c κs. search span-turns)
-    (λ c κs. search span-turns)
-    (λ c. search span-turns)
-    (λ c. search span-turns)
-    (λ c. search span-turns)
-    (λ c. search span-turns)
-    (λ c. search span-turns))
+check-spec = tie.close (tie.spec (λ c κs. search ascii-turns) (λ c κs. search ascii-turns) (λ c. search ascii-turns) (λ c. search ascii-turns))

@@ -3,7 +3,7 @@ use Prim.Native.Nat.{_-_, _≤_}
 use mathlib.Core.Path.{_≡_}
 use lib.ListN.{length, drop}
 use Rattle.utf8.specs.Utf8.{check}
-use Rattle.utf8.proofs.Turns.{all-turns}
+use Rattle.utf8.proofs.Ascii.{ascii-turns}
 use Rattle.utf8.proofs.check_all.Statement.{statement}
 use Rattle.utf8.proofs.check_all.Tie as tie
 
@@ -19,10 +19,15 @@ check-all-spec =
     (tie.spec
     Inv-loop
     μ-loop
-    (λ c. search all-turns)
-    (λ c κs. search all-turns)
-    (λ c. search all-turns)
-    (λ c. search all-turns)
-    (λ c. search all-turns)
-    (λ c. search all-turns)
-    (λ c. search all-turns))
+    (λ c. search ascii-turns)
+    (λ c. search ascii-turns)
+    (λ c. search ascii-turns)
+    (λ c κs. search ascii-turns)
+    (λ c. search ascii-turns)
+    (λ c. search ascii-turns)
+    (λ c κs. search ascii-turns)
+    (λ c. search ascii-turns)
+    (λ c. search ascii-turns)
+    (λ c. search ascii-turns)
+    (λ c. search ascii-turns)
+    (λ c. search ascii-turns))

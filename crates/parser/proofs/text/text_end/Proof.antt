@@ -4,7 +4,7 @@ use mathlib.Core.Path.{_≡_}
 use lib.ListN.{length}
 use Rattle.parser.specs.Machine.{scanAt}
 use Rattle.parser.specs.First.{firstStep, oneOf, textEnds}
-use Rattle.parser.proofs.Turns.{first-turns}
+use Rattle.parser.proofs.Passed.{text-passes}
 use Rattle.parser.proofs.text.text_end.Statement.{statement}
 use Rattle.parser.proofs.text.text_end.Tie as tie
 
@@ -20,11 +20,12 @@ text-end-spec =
     (tie.spec
     Inv-loop
     μ-loop
-    (λ c. search first-turns)
-    (λ c. search first-turns)
-    (λ c. search first-turns)
-    (λ c. search first-turns)
-    (λ c. search first-turns)
-    (λ c. search first-turns)
-    (λ c. search first-turns)
-    (λ c. search first-turns))
+    (λ c. search text-passes)
+    (λ c κs. search text-passes)
+    (λ c. search text-passes)
+    (λ c. search text-passes)
+    (λ c. search text-passes)
+    (λ c. search text-passes)
+    (λ c. search text-passes)
+    (λ c. search text-passes)
+    (λ c. search text-passes))
