@@ -1,4 +1,5 @@
 pub mod Cuts
+pub mod Once
 pub mod Outside
 pub mod Rooms
 pub mod States

@@ -3,13 +3,11 @@ use Prim.Native.Nat.{ℕ, _≤_, _<_}
 use mathlib.Core.Path.{_≡_, sym, ap, _∙_}
 use mathlib.Core.List.{List}
 use mathlib.Core.Bool.{Bool, true, false}
-use native.Mathlib.Omega.{arith}
 use lib.ListN.{length, getD}
 use borrow.Author.Needs.{needs}
 use borrow.Author.Tests.{eq-eqb, ne-eqb, le-leb, lt-leb, eqb-true, leb-true}
 use Rattle.ground.specs.Bytes.{amp, lt}
 use Rattle.ground.proofs.Choices.{both, pick-bool}
-use Rattle.ground.proofs.Lists.{stands-in}
 use Rattle.state.specs.declared.place.Depth.{Depth}
 use Rattle.state.specs.declared.place.Span.{Span}
 use Rattle.state.specs.declared.run.Phase.{Phase}
@@ -153,6 +151,3 @@ module _ (doc : List ℕ) (r : Reader) (ok : inPlace doc r ≡ true) where
   pub ref-at : r .phase ≡ Phase.InsideRef → getD doc (r .position .0) 0 ≡ amp
   unfolding inPlace
   ref-at p = eqb-true _ _ (simp p at ok)
-
-  pub markup-in : r .phase ≡ Phase.InsideMarkup → r .position .0 < length doc
-  markup-in p = stands-in doc (r .position .0) lt (markup-at p) (omega arith)

@@ -20,7 +20,7 @@ use state::run::Phase;
 ghost use mathlib.Core.Path.{_≡_};
 ghost use Prim.Native.Nat.{_<_};
 ghost use lib.ListN.{length};
-ghost use Rattle.reader.specs.Asked.{EndsWithin};
+ghost use Rattle.reader.specs.Asked.{EndsWithin, tagShape};
 ghost use Rattle.reader.specs.Cut.{whole as wholeOf, stop as stopOf, phaseAt, cutText, cutRef, unclosedTag, cutTag, cutMarked, cutBang, cutQuestion, cutMarkup, cutNext};
 
 // A piece from `from` to `to`.
@@ -47,10 +47,7 @@ fn stop(error: Error, from: usize, left: usize) -> Cut
 pub fn cut_next(document: &[u8], at: usize) -> Cut
     ensures { λ r. ⌜ r ≡ cutNext (now (document .entry)) at ⌝ }
 {
-    if document.len() <= at {
-        return cut_text(document, at);
-    }
-    let b = document[at];
+    let b = byte_at(document, at);
     match b {
         b'<' => cut_markup(document, at),
         b'&' => cut_ref(document, at),
@@ -80,7 +77,7 @@ fn phase_at(document: &[u8], end: usize) -> Phase
 }
 
 // A reference, from its `&`.
-pub fn cut_ref(document: &[u8], at: usize) -> Cut
+fn cut_ref(document: &[u8], at: usize) -> Cut
     ensures { λ r. ⌜ r ≡ cutRef (now (document .entry)) at ⌝ }
 {
     let first::Found::At(end) = reference_end(document, at) else {
@@ -94,7 +91,7 @@ pub fn cut_ref(document: &[u8], at: usize) -> Cut
 }
 
 // Markup, from its `<`, by the byte after it.
-pub fn cut_markup(document: &[u8], at: usize) -> Cut
+fn cut_markup(document: &[u8], at: usize) -> Cut
     requires { ⌜ at < length (now document) ⌝ }
     ensures { λ r. ⌜ r ≡ cutMarkup (now (document .entry)) at ⌝ }
 {
@@ -106,9 +103,15 @@ pub fn cut_markup(document: &[u8], at: usize) -> Cut
     match b {
         b'!' => cut_bang(document, at, byte_at(document, at + 2)),
         b'?' => cut_question(document, at),
-        b'/' => cut_tag(document, at, Shape::End),
-        _ => cut_tag(document, at, Shape::Start),
+        _ => cut_tag(document, at, tag_shape(b)),
     }
+}
+
+// Which tag it is, by the byte after `<`.
+fn tag_shape(b: u8) -> Shape
+    ensures { λ r. ⌜ r ≡ tagShape b ⌝ }
+{
+    if b == b'/' { Shape::End } else { Shape::Start }
 }
 
 // A tag.

@@ -28,3 +28,10 @@ pub enum Cut {
     Piece(Piece),
     Stop(Refusal),
 }
+
+// What is due: a piece, from the place where it starts; the end of an empty element; or nothing more.
+pub enum Due {
+    Piece(usize),
+    EmptyEnd,
+    Nothing,
+}

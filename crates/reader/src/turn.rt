@@ -1,9 +1,8 @@
 // What a call answers, and the reader after it. The stack is only read here.
-use crate::cut::cut_markup;
 use crate::cut::cut_next;
-use crate::cut::cut_ref;
 use crate::names::latest;
 use crate::piece::Cut;
+use crate::piece::Due;
 use crate::piece::Piece;
 use crate::piece::Shape;
 use crate::sound::sound;
@@ -32,8 +31,9 @@ use utf8::check;
 use white::trim_start;
 ghost use mathlib.Core.Path.{_≡_};
 ghost use mathlib.Core.Bool.{true};
+ghost use Rattle.reader.specs.Asked.{dueOf};
 ghost use Rattle.reader.specs.Sound.{inPlace};
-ghost use Rattle.reader.specs.Step.{begin as beginOf, skipped, illPlace, emitted, checked as checkedOf, taken, stepText, stepPhase, step};
+ghost use Rattle.reader.specs.Step.{begin as beginOf, skipped, illPlace, emitted, checked as checkedOf, taken, stepPhase, step};
 
 // The answer and the reader after it; a bad state is refused first.
 pub fn decide(reader: Reader, document: &[u8], stack: &[usize]) -> Step
@@ -53,15 +53,30 @@ fn by_phase(reader: Reader, document: &[u8], last: Span, capacity: Depth) -> Ste
     requires { ⌜ inPlace (now document) reader ≡ true ⌝ }
     ensures { λ r. ⌜ r ≡ stepPhase (now (document .entry)) reader last capacity ⌝ }
 {
+    match what_is_due(reader, document) {
+        Due::Piece(from) => take(reader, document, last, capacity, cut_next(document, from)),
+        Due::EmptyEnd => close_expanded_empty(reader, last),
+        Due::Nothing => {
+            let at = reader.position.0;
+            reader.eof(Span { from: at, to: at })
+        }
+    }
+}
+
+// What is due in the phase. Markup and references stand at their `<` and `&`, so that one call cuts off every piece.
+fn what_is_due(reader: Reader, document: &[u8]) -> Due
+    ensures { λ r. ⌜ r ≡ dueOf (now (document .entry)) reader ⌝ }
+{
     let phase = reader.phase;
+    let settings = reader.settings;
     let at = reader.position.0;
     match phase {
-        Phase::Init => by_text(reader, document, last, capacity, begin(document)),
-        Phase::InsideText => by_text(reader, document, last, capacity, at),
-        Phase::InsideMarkup => take(reader, document, last, capacity, cut_markup(document, at)),
-        Phase::InsideRef => take(reader, document, last, capacity, cut_ref(document, at)),
-        Phase::InsideEmpty => close_expanded_empty(reader, last),
-        Phase::Done => reader.eof(Span { from: at, to: at }),
+        Phase::Init => Due::Piece(skip(document, settings, begin(document))),
+        Phase::InsideText => Due::Piece(skip(document, settings, at)),
+        Phase::InsideMarkup => Due::Piece(at),
+        Phase::InsideRef => Due::Piece(at),
+        Phase::InsideEmpty => Due::EmptyEnd,
+        Phase::Done => Due::Nothing,
     }
 }
 
@@ -74,16 +89,6 @@ fn begin(document: &[u8]) -> usize
     } else {
         0
     }
-}
-
-// From `from` on, where text may stand.
-fn by_text(reader: Reader, document: &[u8], last: Span, capacity: Depth, from: usize) -> Step
-    ensures { λ r. ⌜ r ≡ stepText (now (document .entry)) reader last capacity from ⌝ }
-{
-    let settings = reader.settings;
-    let at = skip(document, settings, from);
-    let cut = cut_next(document, at);
-    take(reader, document, last, capacity, cut)
 }
 
 // Past the white space at `from` if that is trimmed.
