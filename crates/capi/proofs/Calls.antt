@@ -1,8 +1,9 @@
 -- What a host's call answers and leaves, from the promises of what it calls. Assumes nothing.
 use Prim.Native.Nat.{ℕ, _≤_, _<_}
 use mathlib.Core.Path.{_≡_, refl, sym, ap, _∙_}
+use mathlib.Core.Bool.{Bool, true, false}
 use mathlib.Core.List.{List}
-use lib.ListN.{length}
+use lib.ListN.{length, take}
 use borrow.Author.Needs.{needs}
 use Rattle.ground.proofs.Choices.{pick-lt, pick-nlt}
 use Rattle.state.specs.declared.config.Config.{Config}
@@ -16,12 +17,16 @@ use Rattle.state.specs.declared.run.Made.{Made}
 use Rattle.state.specs.Make.{made, badAnswer}
 use Rattle.state.specs.Place.{span}
 use Rattle.state.specs.Values.{refusalValues, valuesOf}
+use Rattle.reader.specs.Sound.{sound}
 use Rattle.reader.specs.Step.{step, Stepped}
+use Rattle.reader.proofs.Outside.{step-turn}
+use Rattle.demands.proofs.Demand1.{unsound-changes-nothing}
 use Rattle.capi.specs.declared.slots.Held.{Held}
 use Rattle.capi.specs.Numbers.{configOf, stateNumbers, stateSlots, valuesNumbers, answerSlots, heldOf}
 use Rattle.capi.specs.Slots.{put, placed, partNumbers, partSlots}
 use Rattle.capi.specs.Calls.{badNumber, madeState, Opened, lentTo, answerTo, Called, Parted}
 use Rattle.capi.proofs.Puts.{put-nothing}
+use Rattle.capi.proofs.Rounds.{moved-is-stored}
 
 module _ (doc : List ℕ) where
   -- ---- making a reader
@@ -44,6 +49,14 @@ module _ (doc : List ℕ) where
 
   -- ---- reading on
 
+  -- a call changes neither the length nor the settings
+  kept-on : (stack : List ℕ) (r : Reader) → (step doc stack r .reader .length ≡ r .length) × (step doc stack r .reader .settings ≡ r .settings)
+  kept-on stack r = by (sound doc stack r) refl
+    where
+      by : (t : Bool) → sound doc stack r ≡ t → (step doc stack r .reader .length ≡ r .length) × (step doc stack r .reader .settings ≡ r .settings)
+      by true e = let t = step-turn doc stack r e in (t .size, t .settings)
+      by false e = let same = unsound-changes-nothing doc stack r e .0 in (ap (λ (x : Reader). x .length) same, ap (λ (x : Reader). x .settings) same)
+
   module _ (stack state answer : List ℕ) where
     lent-none : length answer < answerSlots → lentTo state answer ≡ Held.Nothing
     unfolding lentTo
@@ -61,14 +74,17 @@ module _ (doc : List ℕ) where
       lent = sym (pick-nlt _ _ _ _ _ room loaded)
 
       pub called-on : (r : Reader) (s : Step) (stack' state' : List ℕ) → h ≡ Held.Reader r → Stepped doc stack r s stack' → v ≡ valuesOf (s .answer)
-          → state' ≡ put state (stateNumbers (s .reader)) → Called doc stack state answer (v .number) stack' state' answer'
+          → state' ≡ put state (take 3 (stateNumbers (s .reader))) → Called doc stack state answer (v .number) stack' state' answer'
       called-on r s stack' state' is p w q =
           let k : lentTo state answer ≡ Held.Reader r = lent ∙ is in
           let values : v ≡ valuesOf (step doc stack r .answer) = w ∙ ap (λ (t : Step). valuesOf (t .answer)) (p .outcome) in
           record {
             said = rw k (ap (λ (x : Values). x .number) values);
             names = rw k (p .slots);
-            reader = rw k (q ∙ ap (λ (t : Step). put state (stateNumbers (t .reader))) (p .outcome));
+            reader =
+                rw k
+                (q ∙ ap (λ (t : Step). put state (take 3 (stateNumbers (t .reader)))) (p .outcome)
+                ∙ moved-is-stored state r (step doc stack r .reader) (sym loaded ∙ is) (kept-on stack r .0) (kept-on stack r .1));
             slots = rw k (told ∙ ap (λ (x : Values). put answer (valuesNumbers x)) values);
           }
 

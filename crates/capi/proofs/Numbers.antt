@@ -4,7 +4,7 @@ use native.Mathlib.Omega.{arith}
 use mathlib.Core.Path.{_≡_}
 use mathlib.Core.Bool.{Bool}
 use mathlib.Core.List.{List, [], _∷_}
-use lib.ListN.{length, getD}
+use lib.ListN.{length, getD, take}
 use lib.Dec.{eqb}
 use borrow.Author.Needs.{needs}
 use Rattle.ground.proofs.Choices.{pick-nlt}
@@ -54,4 +54,10 @@ pub state-put : (xs ys : List ℕ) (r : Reader) (p s : ℕ) → p ≡ phaseNumbe
 unfolding stateNumbers
 state-put xs ys r p s hp hs e = rw (← hp, ← hs) e
 
-pub ruleset numbers = (needs, config-made, held-made, state-put)
+-- the first three of them written
+pub moved-put : (xs ys : List ℕ) (r : Reader) (p : ℕ) → p ≡ phaseNumber (r .phase) → ys ≡ put xs (p ∷ r .position .0 ∷ r .depth .0 ∷ [])
+    → ys ≡ put xs (take 3 (stateNumbers r))
+unfolding stateNumbers
+moved-put xs ys r p hp e = rw (← hp) e
+
+pub ruleset numbers = (needs, config-made, held-made, state-put, moved-put)

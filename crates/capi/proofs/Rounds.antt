@@ -4,10 +4,10 @@ use native.Mathlib.Omega.{arith}
 use mathlib.Core.Path.{_≡_, refl, sym, ap, _∙_}
 use mathlib.Core.Bool.{Bool, true, false}
 use mathlib.Core.List.{List, _∷_, _++_}
-use lib.ListN.{length, getD, drop}
+use lib.ListN.{length, getD, take, drop}
 use lib.Seq.{drop-cons}
 use lib.Dec.{eqb, ltb}
-use borrow.Author.Tests.{eq-eqb, ne-eqb, eqb-true, eqb-false, ltb-false}
+use borrow.Author.Tests.{eq-eqb, ne-eqb, eqb-true, eqb-false, ltb-false, le-ltb}
 use Rattle.ground.specs.Choose.{pick}
 use Rattle.ground.proofs.Choices.{pick-cases, pick-nlt}
 use Rattle.state.specs.declared.config.Config.{Config}
@@ -219,3 +219,12 @@ pub what-is-held-is-stored : (xs : List ℕ) (r : Reader) → heldOf xs ≡ Held
 what-is-held-is-stored xs r e =
     let h = holds xs r e in
     ap (λ (x : Reader). put xs (stateNumbers x)) (sym (h .3)) ∙ numbers-kept xs (h .0) (h .1) (h .2)
+
+-- so a reader with the same length and settings is written by its first three numbers
+pub moved-is-stored : (xs : List ℕ) (r s : Reader) → heldOf xs ≡ Held.Reader r → s .length ≡ r .length → s .settings ≡ r .settings
+    → put xs (take 3 (stateNumbers s)) ≡ put xs (stateNumbers s)
+unfolding put stateNumbers
+moved-is-stored xs r s e f g =
+    let l : stateSlots ≤ length xs = holds xs r e .0 in
+    let rest : drop 3 xs ≡ s .length ∷ settingsNumber (s .settings) ∷ drop 5 xs = ap (drop 3) (sym (what-is-held-is-stored xs r e) ∙ stored xs r l) ∙ rw (f, g) in
+    simp (le-ltb (length xs) 3 (omega arith), le-ltb (length xs) 5 l, rest)

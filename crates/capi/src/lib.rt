@@ -10,6 +10,7 @@ use crate::slots::PART_SLOTS;
 use crate::slots::STATE_SLOTS;
 use crate::slots::bad;
 use crate::slots::load;
+use crate::slots::move_on;
 use crate::slots::placed;
 use crate::slots::put;
 use crate::slots::store;
@@ -80,7 +81,7 @@ pub extern "C" fn sporebasket_read_event(
             let step = advance(reader, document, stack);
             let said = step.answer;
             let values = said.values();
-            store(state, step.reader);
+            move_on(state, step.reader);
             tell(answer, values);
             values.number
         }

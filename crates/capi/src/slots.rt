@@ -11,6 +11,7 @@ use state::place::Span;
 use state::run::Phase;
 use state::run::Reader;
 ghost use mathlib.Core.Path.{_≡_};
+ghost use lib.ListN.{take};
 ghost use Rattle.capi.specs.Numbers.{phaseNumber, phaseOf, heldOf, stateNumbers, valuesNumbers};
 ghost use Rattle.capi.specs.Slots.{put as putIn, placed as placedOf};
 ghost use Rattle.state.specs.Make.{badAnswer};
@@ -110,6 +111,17 @@ pub fn store(state: &mut [usize], reader: Reader)
         reader.length,
         settings_number(settings),
     ];
+    put(state, &numbers);
+}
+
+// Writes those of a reader's numbers that a call can change: its length and its settings stand in the slots already.
+pub fn move_on(state: &mut [usize], reader: Reader)
+    ensures { λ _. ⌜ now (state .exit) ≡ putIn (now (state .entry)) (take 3 (stateNumbers reader)) ⌝ }
+{
+    let phase = reader.phase;
+    let position = reader.position;
+    let depth = reader.depth;
+    let numbers = [phase_number(phase), position.0, depth.0];
     put(state, &numbers);
 }
 
