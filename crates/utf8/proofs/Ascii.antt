@@ -76,11 +76,11 @@ module _ (s : List ℕ) (from to : ℕ) where
   sure-not = record { yes = λ e. clash false e refl }
 
   module _ (q : Bool) where
-    pub sure-16 : from ≤ to → to - from ≤ 16 → Tells q (NoneOf (leb 127) s from 16) → Sure q s from to
-    sure-16 h l b = record { yes = λ e. covers s 127 16 (omega arith) from to from h (ascii-none s from) from (omega arith) (b .yes e) (omega arith) }
+    pub sure-16 : from < to → to - from ≤ 16 → Tells q (NoneOf (leb 127) s from 16) → Sure q s from to
+    sure-16 h l b = record { yes = λ e. covers s 127 16 (omega arith) from to from (omega arith) (ascii-none s from) from (omega arith) (b .yes e) (omega arith) }
 
-    pub sure-128 : from ≤ to → to - from ≤ 128 → Tells q (NoneOf (leb 128) s from 128) → Sure q s from to
-    sure-128 h l b = record { yes = λ e. covers s 128 128 (omega arith) from to from h (ascii-none s from) from (omega arith) (b .yes e) (omega arith) }
+    pub sure-128 : from < to → to - from ≤ 128 → Tells q (NoneOf (leb 128) s from 128) → Sure q s from to
+    sure-128 h l b = record { yes = λ e. covers s 128 128 (omega arith) from to from (omega arith) (ascii-none s from) from (omega arith) (b .yes e) (omega arith) }
 
     pub sure-long : (i : ℕ) → Ascii s from i → 128 ≤ to - from → to - i < 128 → Tells q (NoneOf (leb 128) s (to - 128) 128) → Sure q s from to
     sure-long i a h l b = record {

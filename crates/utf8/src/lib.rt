@@ -1,9 +1,10 @@
 // The UTF-8 check (RFC 3629, section 4).
 use blocks::below;
+use ground::byte_at;
 ghost use mathlib.Core.Path.{_≡_};
 ghost use mathlib.Core.List.{_∷_};
-ghost use Prim.Native.Nat.{_+_, _-_, _≤_};
-ghost use lib.ListN.{drop, replicate};
+ghost use Prim.Native.Nat.{_+_, _-_, _≤_, _<_};
+ghost use lib.ListN.{length, getD, drop, replicate};
 ghost use Rattle.ground.specs.Choose.{pick};
 ghost use Rattle.ground.specs.Part.{part as partOf};
 ghost use Rattle.utf8.specs.Utf8.{utf8Tail, inRanges, charLen, check as checkOf};
@@ -53,10 +54,21 @@ fn char_len(s: &[u8], at: usize) -> usize
     if s.len() <= at {
         return 0;
     }
-    let next = at + 1;
     match s[at] {
         0x00..=0x7F => 1,
-        0xC2..=0xDF => tail_len(s, next, 0x80, 0xBF, 0),
+        0x80..=0xC1 => 0,
+        0xC2..=0xDF => tail_len(s, at + 1, 0x80, 0xBF, 0),
+        _ => long_len(s, at),
+    }
+}
+
+// The same of one whose first byte is E0 or more: three bytes or four.
+fn long_len(s: &[u8], at: usize) -> usize
+    requires { ⌜ (at < length (now s)) × (0xE0 ≤ getD (now s) at 0) ⌝ }
+    ensures { λ r. ⌜ r ≡ charLen (drop at (now (s .entry))) ⌝ }
+{
+    let next = at + 1;
+    match s[at] {
         0xE0 => tail_len(s, next, 0xA0, 0xBF, 1),
         0xE1..=0xEC => tail_len(s, next, 0x80, 0xBF, 1),
         0xED => tail_len(s, next, 0x80, 0x9F, 1),
@@ -110,11 +122,13 @@ pub fn check(s: &[u8], from: usize, to: usize) -> Utf8
     }
 }
 
-// Whether the span is ASCII as blocks show it. Those of a short one may end behind it.
+// Whether the span is ASCII as blocks show it. Those of a short one may end behind it. (Where the second byte is not ASCII, none is looked at.)
 fn plain(s: &[u8], from: usize, to: usize) -> bool
     ensures { λ r. ⌜ Sure r (now (s .entry)) from to ⌝ }
 {
-    if to < from {
+    if to <= from {
+        false
+    } else if 0x80 <= byte_at(s, from + 1) {
         false
     } else if to - from <= 16 {
         below(s, from, 16, 127)

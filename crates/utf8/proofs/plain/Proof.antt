@@ -7,9 +7,14 @@ pub plain-spec : {M : Type 1} → statement M
 plain-spec =
     tie.close
     (tie.spec
+    (λ c. search ascii-turns)
+    (λ c κs. search ascii-turns)
+    (λ c. search ascii-turns)
+    (λ c κs. search ascii-turns)
+    (λ c. search ascii-turns)
     (λ c κs. search ascii-turns)
     (λ c κs. search ascii-turns)
-    (λ c κs. search ascii-turns)
+    (λ c. search ascii-turns)
     (λ c. search ascii-turns)
     (λ c. search ascii-turns)
     (λ c. search ascii-turns)
