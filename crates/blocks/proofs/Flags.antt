@@ -9,18 +9,10 @@ use borrow.Author.Count.{below-more}
 use borrow.Author.Tests.{le-leb, lt-leb, leb-true, leb-false}
 use lib.Dec.{eqb, leb}
 use lib.ListN.{length, getD}
-use Rattle.ground.proofs.Choices.{choices, clash, not-true}
+use Rattle.ground.proofs.Choices.{choices, clash, not-true, or-left, or-right}
 use Rattle.blocks.specs.Blocks.{eitherOf, NoneOf, Flag, Tells}
 
 -- ---- either of two
-
-pub or-left : (a b : Bool) → (a || b) ≡ false → a ≡ false
-or-left true b e = e
-or-left false b e = refl
-
-pub or-right : (a b : Bool) → (a || b) ≡ false → b ≡ false
-or-right true b e = clash true refl e
-or-right false b e = e
 
 or-both : (a b : Bool) → a ≡ false → b ≡ false → (a || b) ≡ false
 or-both a b e f = rw (e, f)

@@ -2,7 +2,7 @@
 -- Assumes nothing.
 use Prim.Native.Nat.{ℕ, _≤_, _<_}
 use mathlib.Core.Path.{_≡_, refl, sym, ap, _∙_}
-use mathlib.Core.Bool.{Bool, true, false, not}
+use mathlib.Core.Bool.{Bool, true, false, not, _||_}
 use native.Mathlib.Omega.{arith}
 use lib.Dec.{leb, ltb, eqb}
 use borrow.Author.Needs.{needs}
@@ -57,6 +57,15 @@ not-true false e = refl
 pub not-false : (t : Bool) → not t ≡ false → t ≡ true
 not-false true e = refl
 not-false false e = clash true refl e
+
+-- of two tests neither passes
+pub or-left : (t u : Bool) → (t || u) ≡ false → t ≡ false
+or-left true u e = e
+or-left false u e = refl
+
+pub or-right : (t u : Bool) → (t || u) ≡ false → u ≡ false
+or-right true u e = clash true refl e
+or-right false u e = e
 
 -- two tests that both pass
 pub both : (t u : Bool) → pick t u false ≡ true → (t ≡ true) × (u ≡ true)

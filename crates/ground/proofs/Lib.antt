@@ -3,3 +3,4 @@ pub mod Lists
 pub mod First
 pub mod Equal
 pub mod Parts
+pub mod Eights

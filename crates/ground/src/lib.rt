@@ -1,6 +1,8 @@
 // What every crate stands on: a byte of a slice, a part of it that is asked for by its ends, and comparisons of bytes.
 ghost use mathlib.Core.Path.{_≡_};
-ghost use lib.ListN.{getD, drop};
+ghost use Prim.Native.Nat.{_+_, _≤_};
+ghost use lib.ListN.{length, getD, drop};
+ghost use Rattle.ground.specs.Alike.{Alike};
 ghost use Rattle.ground.specs.Equal.{begins, same as sameOf};
 ghost use Rattle.ground.specs.Part.{PartOf};
 
@@ -51,8 +53,42 @@ pub fn same(a: &[u8], b: &[u8]) -> bool
     ensures { λ r. ⌜ r ≡ sameOf (now (a .entry)) (now (b .entry)) ⌝ }
 {
     if a.len() == b.len() {
-        starts_with(a, 0, b)
+        alike(a, b)
     } else {
         false
     }
+}
+
+// The same of slices as long as each other: by 8 bytes while they are the same, and then by one.
+fn alike(a: &[u8], b: &[u8]) -> bool
+    requires { ⌜ length (now a) ≡ length (now b) ⌝ }
+    ensures { λ r. ⌜ r ≡ begins (now (a .entry)) (now (b .entry)) ⌝ }
+{
+    let n = b.len();
+    let mut i = 0;
+    while 8 <= n - i {
+        if differ_8(a, b, i) {
+            break;
+        }
+        i += 8;
+    }
+    while i < n {
+        if a[i] != b[i] {
+            return false;
+        }
+        i += 1;
+    }
+    true
+}
+
+// Whether one of the 8 bytes at `at` is another in b than in a.
+fn differ_8(a: &[u8], b: &[u8], at: usize) -> bool
+    requires { ⌜ (at + 8 ≤ length (now a)) × (at + 8 ≤ length (now b)) ⌝ }
+    ensures { λ r. ⌜ Alike (now (a .entry)) (now (b .entry)) at 8 r ⌝ }
+{
+    let mut other = false;
+    for k in 0..8 {
+        other = other | (a[at + k] != b[at + k]);
+    }
+    other
 }

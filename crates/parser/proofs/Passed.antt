@@ -11,9 +11,8 @@ use borrow.Author.Tests.{eqb-false}
 use lib.Dec.{eqb}
 use lib.ListN.{length, getD}
 use Rattle.ground.specs.Bytes.{quot, amp, apos, lt, gt}
-use Rattle.ground.proofs.Choices.{choices}
+use Rattle.ground.proofs.Choices.{choices, or-left, or-right}
 use Rattle.blocks.specs.Blocks.{oneOf, eitherOf, blockLen, Before, NoneOf, Tells}
-use Rattle.blocks.proofs.Flags.{or-left, or-right}
 use Rattle.parser.specs.Machine.{Next, go, halt, Scan, scanAt}
 use Rattle.parser.specs.First.{firstStep, firstAnswer, textEnds}
 use Rattle.parser.specs.declared.first.Found.the-variants.{At, End}
