@@ -1,7 +1,7 @@
 -- Blocks of ASCII that the check passes at once. Assumes nothing.
 use Prim.Native.Nat.{ℕ, zero, suc, _+_, _-_, _^_, _≤_, _<_}
 use mathlib.Core.Path.{_≡_, refl, sym, ap, _∙_, subst}
-use mathlib.Core.List.{List, []}
+use mathlib.Core.List.{List}
 use mathlib.Core.Bool.{Bool, true, false, not}
 use native.Mathlib.Omega.{arith}
 use native.Mathlib.Decide.{decLt}
@@ -9,16 +9,17 @@ use mir.Val.{Fits}
 use mir.Syntax.{w64}
 use borrow.Author.Tests.{leb-false}
 use lib.Dec.{leb}
-use lib.ListN.{length, getD, take, drop}
+use lib.ListN.{length, getD, drop}
 use lib.Seq.{getD-take, getD-drop}
 use Rattle.ground.specs.Part.{part}
 use Rattle.ground.proofs.Choices.{clash, not-false}
-use Rattle.ground.proofs.Lists.{part-in, part-past, part-length}
+use Rattle.ground.proofs.Lists.{drop-next, part-in, part-length, part-end}
 use Rattle.blocks.specs.Blocks.{NoneOf, Tells}
 use Rattle.utf8.specs.Utf8.{check}
 use Rattle.utf8.specs.Ascii.{Ascii, Sure}
 use Rattle.utf8.specs.declared.Utf8.the-variants.{WellFormed}
-use Rattle.utf8.proofs.Turns.{char-turns, all-turns, all-turn, all-end, row-low, span-is}
+use Rattle.utf8.proofs.Rfc.{ascii, ascii-octets, well-formed}
+use Rattle.utf8.proofs.Turns.{all-turns}
 
 -- ---- blocks
 
@@ -91,7 +92,7 @@ module _ (s : List ℕ) (from to : ℕ) where
 
 module _ (s : List ℕ) where
   one : (i : ℕ) → check 0 s ≡ check i (drop i s) → i < length s → getD s i 0 < 128 → check 0 s ≡ check (i + 1) (drop (i + 1) s)
-  one i v h l = all-turn s i 1 (row-low s i h 128 l (search char-turns) (search char-turns)) v (λ e. omega arith)
+  one i v h l = v ∙ ap (check i) (drop-next s i h) ∙ ascii i (getD s i 0) (drop (i + 1) s) (omega arith)
 
   run : (i k : ℕ) → check 0 s ≡ check i (drop i s) → Ascii s i (i + k) → check 0 s ≡ check (i + k) (drop (i + k) s)
   run i zero v a = v ∙ ap (λ (n : ℕ). check n (drop n s)) (omega arith)
@@ -121,32 +122,18 @@ module _ (s : List ℕ) where
 -- ---- `check`
 
 module _ (s : List ℕ) (from to : ℕ) (a : Ascii s from to) where
-  empty : to ≤ from → part s from to ≡ []
-  empty h = elim (decLt (length s) to) [
-    | yes l ↦ part-past s from to l
-    | no l ↦ let e : to - from ≡ 0 = omega arith in part-in s from to (a .low) (omega arith) ∙ ap (λ (n : ℕ). take n (drop from s)) e
+  bytes : (p : ℕ) → p < length (part s from to) → getD (part s from to) p 0 ≤ 0x7F
+  bytes p l = elim (decLt from to) [
+    | yes h ↦ let m = part-length s from to (a .low) (a .within h) in
+        let e : getD (part s from to) p 0 ≡ getD s (from + p) 0 =
+        ap (λ (t : List ℕ). getD t p 0) (part-in s from to (a .low) (a .within h)) ∙ getD-take (to - from) (drop from s) p 0 (omega arith)
+        ∙ getD-drop from s p 0 in
+        let k = a .ascii (from + p) (omega arith) (omega arith) in
+        omega arith
+    | no h ↦ absurd (omega (arith, part-end s from to))
   ]
 
-  bytes : from < to → (p : ℕ) → p < to - from → getD (part s from to) p 0 < 128
-  bytes h p l =
-      let e : getD (part s from to) p 0 ≡ getD s (from + p) 0 =
-      ap (λ (t : List ℕ). getD t p 0) (part-in s from to (a .low) (a .within h)) ∙ getD-take (to - from) (drop from s) p 0 l ∙ getD-drop from s p 0 in
-      subst (λ (b : ℕ). b < 128) (sym e) (a .ascii (from + p) (omega arith) (omega arith))
-
-  well : WellFormed ≡ check from (part s from to)
-  well = span-is s (part s from to) from to WellFormed whole refl WellFormed WellFormed refl refl
-    where
-      whole : WellFormed ≡ check 0 (part s from to)
-      whole = elim (decLt from to) [
-        | yes h ↦ let n = part-length s from to (a .low) (a .within h) in
-            all-end (part s from to) (to - from)
-            (passed (part s from to) 0 (to - from) refl
-            (record { low = omega arith; within = λ g. omega (arith, n); ascii = λ p g l. bytes h p l }))
-            (omega (arith, n))
-        | no h ↦ all-end (part s from to) 0 refl (omega (arith, ap length (empty (omega arith))))
-      ]
-
 pub sure-well : (s : List ℕ) (from to : ℕ) (q : Bool) → Sure q s from to → q ≡ true → WellFormed ≡ check from (part s from to)
-sure-well s from to q u e = well s from to (u .yes e)
+sure-well s from to q u e = sym (well-formed from (part s from to) .1 (ascii-octets (part s from to) (bytes s from to (u .yes e))))
 
 pub ruleset ascii-turns = (all-turns, ascii-none, ascii-16, ascii-128, block-fits, block-less, sure-not, sure-16, sure-128, sure-long, ascii-room, ascii-turn, sure-well)
