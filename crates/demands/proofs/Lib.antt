@@ -4,6 +4,7 @@ pub mod Demand1
 pub mod Demand3
 pub mod Held
 pub mod Joined
+pub mod Longer
 pub mod OtherSettings
 pub mod Pinned
 pub mod Worked
