@@ -72,7 +72,7 @@ a-host's-call-is-the-run's doc w state answer number stack' state' answer' h roo
     }
 
 -- a reader that a call moves on is the state's
-lent-holds : (state answer : List ℕ) (r : Reader) → lentTo state answer ≡ Held.Reader r → Holds state r
+pub lent-holds : (state answer : List ℕ) (r : Reader) → lentTo state answer ≡ Held.Reader r → Holds state r
 unfolding lentTo
 lent-holds state answer r =
     pick-cases (λ (h : Held). h ≡ Held.Reader r → Holds state r) (ltb (length answer) answerSlots) _ _

@@ -1,4 +1,5 @@
 pub mod Numbers
 pub mod Slots
 pub mod Calls
+pub mod Growing
 pub mod Hosts

@@ -1,6 +1,7 @@
 pub mod Answers
 pub mod Run
 pub mod Calls
+pub mod Growing
 pub mod Open
 pub mod Openings
 pub mod Table
