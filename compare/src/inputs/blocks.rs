@@ -43,10 +43,25 @@ const WITHIN: &[&[u8]] = &[
     b"\xE2\x82",
     b"\xF0\x9F\x9A\x86",
     b"\xED\xA0\x80",
+    b"\x80",
+    b"\x7F",
     b"/",
     b"</a>",
     b"\0",
 ];
+
+/// How many bytes of a run stand before what is put into it: around 8, 16, 64 and 128, which is how many bytes ours looks at at a time, and
+/// around the sums of these that it comes to, as 16 and 64 or 64, 128 and 128.
+const BORDERS: &[usize] = &[
+    0, 1, 2, 7, 8, 9, 14, 15, 16, 17, 18, 24, 31, 32, 33, 62, 63, 64, 65, 66, 78, 79, 80, 81, 82, 126, 127, 128, 129, 130, 131, 143, 144,
+    145, 146, 190, 191, 192, 193, 194, 195, 255, 256, 257, 258, 319, 320, 321,
+];
+
+/// How many stand behind it.
+const BEYOND: &[usize] = &[0, 1, 15, 16, 17, 62, 63, 64, 65, 127, 128, 129, 192];
+
+/// What runs of more than one byte are made of.
+const UNITS: &[&[u8]] = &[b"\xC3\xA9", b"\xE2\x82\xAC", b"\xF0\x9F\x9A\x86", b"a\xC3\xA9", b"aaaaaaaaaaaaaaa\xC3\xA9", b"\x7F"];
 
 /// Stands behind a document in memory, and would close any piece that is read too far.
 const BEHIND: &[u8] = b"-->]]>?>;'\">&<a>";
@@ -62,10 +77,14 @@ fn lend(room: &mut Vec<u8>, before: usize, parts: [&[u8]; 5], settings: &[u8], s
 }
 
 pub fn families(amount: Amount) -> Vec<Family> {
+    vec![every_offset(amount), borders(amount), characters(amount)]
+}
+
+fn every_offset(amount: Amount) -> Family {
     let longest = amount.of(140, 280);
     let step = amount.of(5, 1);
     let settings = amount.of(vec![DEFAULT, !DEFAULT], several());
-    vec![Family::new("runs with something at every offset", RUNS.len() * WITHIN.len(), move |job, sink| {
+    Family::new("runs with something at every offset", RUNS.len() * WITHIN.len(), move |job, sink| {
         let (before, byte, behind) = RUNS[job / WITHIN.len()];
         let within = WITHIN[job % WITHIN.len()];
         let run = vec![byte; longest];
@@ -78,5 +97,47 @@ pub fn families(amount: Amount) -> Vec<Family> {
             }
         }
         ON
-    })]
+    })
+}
+
+/// The same at the borders of blocks, with blocks behind it that fit and that do not.
+fn borders(amount: Amount) -> Family {
+    let settings = amount.of(vec![DEFAULT, !DEFAULT], several());
+    Family::new("runs with something at the borders of blocks", RUNS.len() * WITHIN.len(), move |job, sink| {
+        let (before, byte, behind) = RUNS[job / WITHIN.len()];
+        let within = WITHIN[job % WITHIN.len()];
+        let run = vec![byte; 321];
+        let mut room = Vec::new();
+        for &at in BORDERS {
+            for &beyond in BEYOND {
+                let (left, right) = (&run[..at], &run[..beyond]);
+                lend(&mut room, (at + job) % 17, [before, left, within, right, b""], &settings, sink)?;
+                lend(&mut room, (at + job) % 17, [before, left, within, right, behind], &settings, sink)?;
+            }
+        }
+        ON
+    })
+}
+
+/// Runs of characters of more than one byte, or with one such in every block, from every offset of 16 on, whole and without the last byte.
+fn characters(amount: Amount) -> Family {
+    let step = amount.of(3, 1);
+    let settings = [DEFAULT, !DEFAULT];
+    Family::new("runs of characters of many bytes", RUNS.len() * UNITS.len(), move |job, sink| {
+        let (before, _, behind) = RUNS[job / UNITS.len()];
+        let unit = UNITS[job % UNITS.len()];
+        let run = unit.repeat(330 / unit.len());
+        let first = [b'a'; 17];
+        let mut room = Vec::new();
+        for shift in 0..=16 {
+            for length in (shift % step * unit.len()..=run.len()).step_by(step * unit.len()) {
+                let (left, whole) = (&first[..shift], &run[..length]);
+                let cut = &run[..length.saturating_sub(1)];
+                lend(&mut room, shift, [before, left, whole, b"", behind], &settings, sink)?;
+                lend(&mut room, shift, [before, left, cut, b"", behind], &settings, sink)?;
+                lend(&mut room, shift, [before, left, cut, b"", b""], &settings, sink)?;
+            }
+        }
+        ON
+    })
 }

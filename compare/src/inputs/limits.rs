@@ -38,7 +38,8 @@ fn deep() -> Family {
 
 /// Names of many lengths in every kind of tag, closed by themselves, and by names that are shorter, longer or other in one byte.
 fn names() -> Family {
-    const LENGTHS: &[usize] = &[7, 8, 9, 15, 16, 17, 31, 32, 33, 63, 64, 65, 127, 128, 129, 255, 256, 257, 600, 4097, 65_535, 65_537, 300_000];
+    const LENGTHS: &[usize] =
+        &[7, 8, 9, 15, 16, 17, 31, 32, 33, 63, 64, 65, 127, 128, 129, 255, 256, 257, 600, 4097, 65_535, 65_537, 300_000];
     Family::new("long names", LENGTHS.len(), |job, sink| {
         let length = LENGTHS[job];
         let name = "n".repeat(length);
@@ -56,7 +57,9 @@ fn names() -> Family {
         ] {
             sink.each(document.as_bytes(), &settings, 8)?;
         }
-        for at in [0, 1, 3, 4, 7, 8, 15, 16, 31, 32, 63, 64, length / 2, length - 2, length - 1] {
+        // at every place of a name that is not long, since ours compares eight bytes at a time
+        let every = if length <= 65 { length } else { 18 };
+        for at in (0..every).chain([31, 32, 63, 64, length / 2, length - 2, length - 1]) {
             let mut document = format!("<a><{name}></{name}></a>").into_bytes();
             if let Some(byte) = document.get_mut(length + 7 + at.min(length - 1)) {
                 *byte = b'm';
