@@ -2,7 +2,7 @@
 //! comes up in many ways, and filled up at random.
 
 use crate::check::{Bench, Case};
-use crate::inputs::{self, random, Amount, Flow, Sink, ON};
+use crate::inputs::{self, blocks, random, Amount, Flow, Sink, ON};
 use crate::listed;
 use crate::ours::*;
 use crate::shrink::Kept;
@@ -15,6 +15,8 @@ use std::hash::{DefaultHasher, Hash, Hasher};
 use std::path::Path;
 
 const LONGEST_LINE: usize = 170;
+/// Of a case at the borders of blocks.
+const LONGEST_BORDER: usize = 260;
 const LARGEST: usize = 250 << 10;
 const CASES: usize = 5_000;
 const OF_EACH_DIFFERENCE: usize = 150;
@@ -195,7 +197,36 @@ fn lines_of(case: &Case, out: &mut String) {
     }
 }
 
-/// Picks the cases: those that show something new out of all families, then random ones up to the number wanted.
+/// Cases at the borders of the blocks that ours looks at at a time: pieces that end there, with bytes behind them and without, and names of closing tags that are
+/// other in one byte.
+fn borders(recorder: &mut Recorder) {
+    let mut look = |parts: &[&[u8]]| {
+        let case = Case { document: &parts.concat(), settings: DEFAULT, slots: 16 };
+        if trace::case_line(&case).len() <= LONGEST_BORDER {
+            recorder.look(&case);
+        }
+    };
+    let ends = [(&b""[..], b't', &b"&a;"[..]), (b"", b't', b"\xC3\xA9<a>"), (b"<a>", b't', b"\xFF<"), (b"<a>", b'\x7F', b"<")];
+    for (before, byte, behind) in blocks::RUNS.iter().chain(&ends) {
+        for border in [16, 64, 80, 128, 192] {
+            for length in border - 1..=border + 1 {
+                let run = vec![*byte; length];
+                look(&[before, &run, behind]);
+                look(&[before, &run, behind, &[b't'; 70]]);
+            }
+        }
+    }
+    for length in [7, 8, 9, 15, 16, 17] {
+        let name = vec![b'n'; length];
+        for at in 0..length {
+            let mut other = name.clone();
+            other[at] = b'o';
+            look(&[b"<", &name, b"></", &other, b">"]);
+        }
+    }
+}
+
+/// Picks the cases: those that show something new out of all families, those at borders, then random ones up to the number wanted.
 fn pick(seed: u64) -> Recorder {
     let mut recorder = Recorder {
         bench: Bench::new(Archive),
@@ -217,6 +248,7 @@ fn pick(seed: u64) -> Recorder {
         }
     }
     recorder.any = true;
+    borders(&mut recorder);
     recorder.picked = recorder.cases.len();
     let mut dice = random::Dice::new(seed + 1);
     let mut document = Vec::new();

@@ -3,7 +3,7 @@
 use super::*;
 
 /// Before the run, the bytes of the run, behind the run.
-const RUNS: &[(&[u8], u8, &[u8])] = &[
+pub const RUNS: &[(&[u8], u8, &[u8])] = &[
     (b"", b't', b"<a>"),
     (b"<a>", b't', b"</a>"),
     (b"", b' ', b"t<a>"),

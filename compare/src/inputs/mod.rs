@@ -1,6 +1,6 @@
 //! The families of inputs. Each is cut into jobs that can be run in any order; a job gives its cases to a sink, always the same ones.
 
-mod blocks;
+pub mod blocks;
 mod exhaustive;
 mod files;
 mod limits;
