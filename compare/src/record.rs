@@ -206,7 +206,7 @@ fn borders(recorder: &mut Recorder) {
             recorder.look(&case);
         }
     };
-    let ends = [(&b""[..], b't', &b"&a;"[..]), (b"", b't', b"\xC3\xA9<a>"), (b"<a>", b't', b"\xFF<"), (b"<a>", b'\x7F', b"<")];
+    let ends = [(&b""[..], b't', &b"&a;"[..]), (b"", b't', b"\xC3\xA9<a>"), (b"<a>", b't', b"\xFF<"), (b"<a>", b'\x7F', b"<"), (b"a", b'\xFF', b"<")];
     for (before, byte, behind) in blocks::RUNS.iter().chain(&ends) {
         for border in [16, 64, 80, 128, 192] {
             for length in border - 1..=border + 1 {
@@ -224,9 +224,12 @@ fn borders(recorder: &mut Recorder) {
             look(&[b"<", &name, b"></", &other, b">"]);
         }
     }
+    // no UTF-8 in a block that is neither the first of its text nor the last
+    let text = [&[b't'; 140][..], b"\xFF", &[b't'; 140], b"<"].concat();
+    recorder.look(&Case { document: &text, settings: DEFAULT, slots: 16 });
 }
 
-/// Picks the cases: those that show something new out of all families, those at borders, then random ones up to the number wanted.
+/// Picks the cases: those at borders, those that show something new out of all families, then random ones up to the number wanted.
 fn pick(seed: u64) -> Recorder {
     let mut recorder = Recorder {
         bench: Bench::new(Archive),
@@ -239,16 +242,17 @@ fn pick(seed: u64) -> Recorder {
         flags: [0; 8],
         full: 0,
         failed: false,
-        any: false,
+        any: true,
         picked: 0,
     };
+    borders(&mut recorder);
+    recorder.any = false;
     for family in inputs::all(Amount::Quick, seed) {
         if family.name != "documents of the greatest length" && !family.name.starts_with("files") {
             (0..family.jobs).for_each(|job| _ = (family.run)(job, &mut recorder));
         }
     }
     recorder.any = true;
-    borders(&mut recorder);
     recorder.picked = recorder.cases.len();
     let mut dice = random::Dice::new(seed + 1);
     let mut document = Vec::new();
