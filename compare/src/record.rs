@@ -206,7 +206,13 @@ fn borders(recorder: &mut Recorder) {
             recorder.look(&case);
         }
     };
-    let ends = [(&b""[..], b't', &b"&a;"[..]), (b"", b't', b"\xC3\xA9<a>"), (b"<a>", b't', b"\xFF<"), (b"<a>", b'\x7F', b"<"), (b"a", b'\xFF', b"<")];
+    let ends = [
+        (&b""[..], b't', &b"&a;"[..]),
+        (b"", b't', b"\xC3\xA9<a>"),
+        (b"<a>", b't', b"\xFF<"),
+        (b"<a>", b'\x7F', b"<"),
+        (b"a", b'\xFF', b"<"),
+    ];
     for (before, byte, behind) in blocks::RUNS.iter().chain(&ends) {
         for border in [16, 64, 80, 128, 192] {
             for length in border - 1..=border + 1 {
