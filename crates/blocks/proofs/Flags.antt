@@ -1,16 +1,18 @@
 -- Flags that are carried over the bytes of a block, and what a test says of them. Assumes nothing.
-use Prim.Native.Nat.{ℕ, _+_, _-_, _≤_, _<_}
+use Prim.Native.Nat.{ℕ, _+_, _-_, _^_, _≤_, _<_}
 use mathlib.Core.Path.{_≡_, refl, sym, ap, _∙_}
 use mathlib.Core.List.{List}
 use mathlib.Core.Bool.{Bool, true, false, not, _||_}
 use native.Mathlib.Omega.{arith}
 use native.Mathlib.Decide.{decLt}
+use mir.Val.{Fits}
+use mir.Syntax.{w64}
 use borrow.Author.Count.{below-more}
 use borrow.Author.Tests.{le-leb, lt-leb, leb-true, leb-false}
 use lib.Dec.{eqb, leb}
 use lib.ListN.{length, getD}
 use Rattle.ground.proofs.Choices.{choices, clash, not-true, or-left, or-right}
-use Rattle.blocks.specs.Blocks.{eitherOf, NoneOf, Flag, Tells}
+use Rattle.blocks.specs.Blocks.{eitherOf, NoneOf, Flag, YesWhere}
 
 -- ---- either of two
 
@@ -32,6 +34,7 @@ module _ (test : ℕ → Bool) (s : List ℕ) (at : ℕ) where
   all-seen : (k n : ℕ) (flag : Bool) → Flag test s at k flag → n ≤ k → k ≤ n → Flag test s at n flag
   all-seen k n flag f h l = record { off = λ e j m. f .off e j (omega arith); only = λ all. f .only (λ j m. all j (omega arith)) }
 
+-- for each of the two tests, since `search` finds no test by itself
 module _ (s : List ℕ) (at a : ℕ) where
   pub equal-none : Flag (λ v. eqb v a) s at 0 false
   equal-none = none-before (λ v. eqb v a) s at
@@ -73,17 +76,25 @@ pub fit-there : (a b : ℕ) (fit : Bool) → fit ≡ leb a b → fit ≡ true �
 fit-there a b fit e f = leb-true a b (sym e ∙ f)
 
 module _ (test : ℕ → Bool) (s : List ℕ) (at n : ℕ) (fit : Bool) (e : fit ≡ leb (at + n) (length s)) where
-  pub said-there : fit ≡ true → (q : Bool) → Flag test s at n q → Tells (not q) (NoneOf test s at n)
+  pub said-there : fit ≡ true → (q : Bool) → Flag test s at n q → YesWhere (not q) (NoneOf test s at n)
   said-there f q g = record {
     yes = λ h. record { within = leb-true (at + n) (length s) (sym e ∙ f); none = g .off (not-true q h) };
     only = λ all. ap not (g .only (all .none));
   }
 
-  pub said-short : fit ≡ false → Tells false (NoneOf test s at n)
+  pub said-short : fit ≡ false → YesWhere false (NoneOf test s at n)
   said-short f = record {
     yes = λ h. clash false h refl;
     only = λ all. absurd (let l = leb-false (at + n) (length s) (sym e ∙ f) in let m = all .within in omega arith);
   }
+
+-- a block that has none, as told, stands before the end
+module _ (test : ℕ → Bool) (s : List ℕ) (at n : ℕ) (q : Bool) (b : YesWhere q (NoneOf test s at n)) (e : q ≡ true) where
+  pub block-fits : length s < 2 ^ 64 → Fits w64 (at + n)
+  block-fits l = record { fits = omega (arith, b .yes e .within) }
+
+  pub block-less : 0 < n → length s - (at + n) < length s - at
+  block-less h = omega (arith, b .yes e .within)
 
 -- ---- whether n bytes stand at b, of a bytes
 

@@ -11,8 +11,8 @@ use lib.Dec.{eqb}
 abbrev pub eitherOf : ℕ → ℕ → ℕ → Bool
 eitherOf a b v = eqb v a || eqb v b
 
-abbrev pub oneOf : ℕ → ℕ → ℕ → ℕ → Bool
-oneOf a b c v = (eqb v a || eqb v b) || eqb v c
+abbrev pub oneOfThree : ℕ → ℕ → ℕ → ℕ → Bool
+oneOfThree a b c v = (eqb v a || eqb v b) || eqb v c
 
 -- how many bytes a search looks at
 abbrev pub blockLen : ℕ
@@ -33,7 +33,7 @@ module _ (test : ℕ → Bool) (s : List ℕ) (at n : ℕ) where
     pub next : r < n → test (getD s (at + r) 0) ≡ true
 
   -- so it is, where n bytes stand there; else r is 0
-  pub record Before (r : ℕ) : Type 0 where
+  pub record Clears (r : ℕ) : Type 0 where
     pub there : at + n ≤ length s → LeastOf r
     pub short : length s < at + n → r ≡ 0
 
@@ -43,6 +43,6 @@ module _ (test : ℕ → Bool) (s : List ℕ) (at n : ℕ) where
     pub only : ((j : ℕ) → j < n → test (getD s (at + j) 0) ≡ false) → flag ≡ false
 
 -- an answer is yes just where a thing is so
-pub record Tells (answer : Bool) (A : Type 0) : Type 0 where
+pub record YesWhere (answer : Bool) (A : Type 0) : Type 0 where
   pub yes : answer ≡ true → A
   pub only : A → answer ≡ true

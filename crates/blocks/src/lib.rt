@@ -5,7 +5,7 @@ ghost use Prim.Native.Nat.{_+_, _≤_};
 ghost use lib.Dec.{leb, ltb};
 ghost use lib.ListN.{length};
 ghost use Rattle.ground.specs.Choose.{pick};
-ghost use Rattle.blocks.specs.Blocks.{oneOf, eitherOf, blockLen, NoneOf, Tells, Before, Flag, LeastOf};
+ghost use Rattle.blocks.specs.Blocks.{oneOfThree, eitherOf, blockLen, NoneOf, YesWhere, Clears, Flag, LeastOf};
 
 // How many bytes `clear` looks at.
 pub const BLOCK: usize = 64;
@@ -23,7 +23,7 @@ fn fits(s: &[u8], at: usize, n: usize) -> bool
 
 // How many of the BLOCK bytes at `at` stand before the first that is a, b or c: all where none is. 0 where so many bytes do not stand there.
 pub fn clear(s: &[u8], at: usize, a: u8, b: u8, c: u8) -> usize
-    ensures { λ r. ⌜ Before (oneOf a b c) (now (s .entry)) at blockLen r ⌝ }
+    ensures { λ r. ⌜ Clears (oneOfThree a b c) (now (s .entry)) at blockLen r ⌝ }
 {
     if fits(s, at, BLOCK) {
         least(s, at, a, b, c)
@@ -35,7 +35,7 @@ pub fn clear(s: &[u8], at: usize, a: u8, b: u8, c: u8) -> usize
 // The same of bytes that stand there: the least of their places.
 fn least(s: &[u8], at: usize, a: u8, b: u8, c: u8) -> usize
     requires { ⌜ at + blockLen ≤ length (now s) ⌝ }
-    ensures { λ r. ⌜ LeastOf (oneOf a b c) (now (s .entry)) at blockLen r ⌝ }
+    ensures { λ r. ⌜ LeastOf (oneOfThree a b c) (now (s .entry)) at blockLen r ⌝ }
 {
     let mut least = 64;
     for k in 0..64 {
@@ -52,7 +52,7 @@ fn lesser(x: u8, y: u8) -> u8
 
 // The place k of a byte that is a, b or c; past the block for any other.
 fn place(v: u8, a: u8, b: u8, c: u8, k: u8) -> u8
-    ensures { λ r. ⌜ r ≡ pick (oneOf a b c v) k blockLen ⌝ }
+    ensures { λ r. ⌜ r ≡ pick (oneOfThree a b c v) k blockLen ⌝ }
 {
     if (v == a) | (v == b) | (v == c) {
         k
@@ -63,7 +63,7 @@ fn place(v: u8, a: u8, b: u8, c: u8, k: u8) -> u8
 
 // Whether n bytes stand at `at`, none of them a or b.
 pub fn neither(s: &[u8], at: usize, n: usize, a: u8, b: u8) -> bool
-    ensures { λ r. ⌜ Tells r (NoneOf (eitherOf a b) (now (s .entry)) at n) ⌝ }
+    ensures { λ r. ⌜ YesWhere r (NoneOf (eitherOf a b) (now (s .entry)) at n) ⌝ }
 {
     if fits(s, at, n) {
         !either(s, at, n, a, b)
@@ -88,7 +88,7 @@ fn either(s: &[u8], at: usize, n: usize, a: u8, b: u8) -> bool
 
 // Whether n bytes stand at `at`, all of them below `top`.
 pub fn below(s: &[u8], at: usize, n: usize, top: u8) -> bool
-    ensures { λ r. ⌜ Tells r (NoneOf (leb top) (now (s .entry)) at n) ⌝ }
+    ensures { λ r. ⌜ YesWhere r (NoneOf (leb top) (now (s .entry)) at n) ⌝ }
 {
     if fits(s, at, n) {
         !reaches(s, at, n, top)

@@ -6,7 +6,7 @@ use lib.ListN.{length}
 use Rattle.demands.specs.Growing.{Enough}
 use Rattle.capi.specs.Numbers.{answerSlots}
 use Rattle.capi.specs.Calls.{Opened, Called}
-use Rattle.capi.specs.Hosts.{Heard, Host, namesOpen}
+use Rattle.capi.specs.Hosts.{Host, namesOpen}
 
 -- the same, with these slots behind the stack's
 abbrev pub hostLending : Host → List ℕ → Host

@@ -3,7 +3,6 @@ use Prim.Native.Nat.{ℕ, _+_, _≤_, _<_}
 use mathlib.Core.Path.{_≡_, refl, sym, ap, _∙_}
 use mathlib.Core.List.{List, [], _∷_}
 use lib.ListN.{length, getD, drop}
-use Rattle.ground.proofs.Choices.{choices}
 use Rattle.ground.proofs.Lists.{drop-next, drop-done}
 use Rattle.parser.specs.Machine.{Next, go, halt, Scan, found, going, stand, tick, feed, scanAt}
 
@@ -47,5 +46,3 @@ module _ {S A : Type 0} (out : Scan S → A) (step : S → ℕ → Next S) (r : 
 
   pub run-halt : i < length a → halt ≡ step s (getD a i 0) → x ≡ out (found i) → x ≡ out r
   run-halt h f e = e ∙ sym (ap out (v ∙ scan-halt step s a i h (sym f)))
-
-pub ruleset runs = (choices, run-turn)

@@ -2,8 +2,7 @@
 use Prim.Native.Nat.{ℕ, _≤_, _<_}
 use mathlib.Core.Path.{_≡_}
 use mathlib.Core.List.{List}
-use Rattle.ground.specs.Bytes.{gt}
-use Rattle.blocks.specs.Blocks.{oneOf, blockLen, Before}
+use Rattle.blocks.specs.Blocks.{oneOfThree, blockLen, Clears}
 use Rattle.parser.specs.Machine.{Next, scanAt}
 
 -- a scan that stands in state t at `from` comes to what it comes to from `to` on
@@ -11,7 +10,8 @@ pub record Passes {S : Type 0} (step : S → ℕ → Next S) (t : S) (s : List �
   pub low : from ≤ to
   pub same : scanAt step t s from ≡ scanAt step t s to
 
--- how many bytes pass where `seen` marks stand just before: where there are none, those before the next `>` or mark; else none
-pub record Skips (mark seen : ℕ) (s : List ℕ) (at r : ℕ) : Type 0 where
-  pub unmarked : seen ≡ 0 → Before (oneOf gt mark mark) s at blockLen r
+-- how many bytes pass where `seen` marks stand just before, of `need`: where there are none, those before the next mark; none where some are, or none is needed
+pub record Skips (mark need seen : ℕ) (s : List ℕ) (at r : ℕ) : Type 0 where
+  pub unmarked : seen ≡ 0 → 0 < need → Clears (oneOfThree mark mark mark) s at blockLen r
   pub marked : 0 < seen → r ≡ 0
+  pub unneeded : need ≡ 0 → r ≡ 0

@@ -45,7 +45,7 @@ fn marks_from(s: &[u8], from: usize, mark: u8, need: usize) -> Found
     let mut i = from;
     let mut seen = 0;
     loop {
-        i += skip(s, i, mark, seen);
+        i += skip(s, i, mark, need, seen);
         if s.len() <= i {
             break Found::Open(Marks { left: 0, seen });
         }
@@ -67,13 +67,15 @@ fn marks_from(s: &[u8], from: usize, mark: u8, need: usize) -> Found
     }
 }
 
-// How many bytes at `at` pass with `seen` marks just before: those up to the next `>` or mark where there are none.
-fn skip(s: &[u8], at: usize, mark: u8, seen: usize) -> usize
-    ensures { λ r. ⌜ Skips mark seen (now (s .entry)) at r ⌝ }
+// How many bytes at `at` pass with `seen` marks just before: those up to the next mark where there are none. A `>` among them closes nothing.
+fn skip(s: &[u8], at: usize, mark: u8, need: usize, seen: usize) -> usize
+    ensures { λ r. ⌜ Skips mark need seen (now (s .entry)) at r ⌝ }
 {
-    if seen == 0 {
-        clear(s, at, b'>', mark, mark)
-    } else {
+    if seen != 0 {
         0
+    } else if need == 0 {
+        0
+    } else {
+        clear(s, at, mark, mark, mark)
     }
 }

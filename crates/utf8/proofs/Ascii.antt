@@ -1,24 +1,23 @@
 -- Blocks of ASCII that the check passes at once. Assumes nothing.
-use Prim.Native.Nat.{ℕ, zero, suc, _+_, _-_, _^_, _≤_, _<_}
-use mathlib.Core.Path.{_≡_, refl, sym, ap, _∙_, subst}
+use Prim.Native.Nat.{ℕ, _+_, _-_, _≤_, _<_}
+use mathlib.Core.Path.{_≡_, refl, sym, ap, ap₂, _∙_, subst}
 use mathlib.Core.List.{List}
-use mathlib.Core.Bool.{Bool, true, false, not}
+use mathlib.Core.Bool.{Bool, true, false}
 use native.Mathlib.Omega.{arith}
 use native.Mathlib.Decide.{decLt}
-use mir.Val.{Fits}
-use mir.Syntax.{w64}
 use borrow.Author.Tests.{leb-false}
 use lib.Dec.{leb}
-use lib.ListN.{length, getD, drop}
-use lib.Seq.{getD-take, getD-drop}
+use lib.ListN.{length, getD, take, drop, length-take, length-drop, take-append-drop}
+use lib.Seq.{getD-take, getD-drop, drop-drop}
 use Rattle.ground.specs.Part.{part}
-use Rattle.ground.proofs.Choices.{clash, not-false}
-use Rattle.ground.proofs.Lists.{drop-next, part-in, part-length, part-end}
-use Rattle.blocks.specs.Blocks.{NoneOf, Tells}
+use Rattle.ground.proofs.Choices.{clash}
+use Rattle.ground.proofs.Lists.{part-in, part-length, part-end}
+use Rattle.blocks.specs.Blocks.{NoneOf, YesWhere}
+use Rattle.blocks.proofs.Flags.{block-fits, block-less}
 use Rattle.utf8.specs.Utf8.{check}
 use Rattle.utf8.specs.Ascii.{Ascii, Sure}
 use Rattle.utf8.specs.declared.Utf8.the-variants.{WellFormed}
-use Rattle.utf8.proofs.Rfc.{ascii, ascii-octets, well-formed}
+use Rattle.utf8.proofs.Rfc.{ascii-run, ascii-octets, well-formed}
 use Rattle.utf8.proofs.Turns.{all-turns}
 
 -- ---- blocks
@@ -56,19 +55,8 @@ module _ (s : List ℕ) (from : ℕ) where
   pub ascii-none : Ascii s from from
   ascii-none = record { low = omega arith; within = λ h. absurd (omega arith); ascii = λ p h l. absurd (omega arith) }
 
-module _ (s : List ℕ) (from i : ℕ) (q : Bool) (a : Ascii s from i) where
-  pub ascii-16 : Tells q (NoneOf (leb 127) s i 16) → q ≡ true → Ascii s from (i + 16)
-  ascii-16 b e = more s 127 16 (omega arith) from i a (b .yes e)
-
-  pub ascii-128 : Tells q (NoneOf (leb 128) s i 128) → not q ≡ false → Ascii s from (i + 128)
-  ascii-128 b e = more s 128 128 (omega arith) from i a (b .yes (not-false q e))
-
-module _ (top n : ℕ) (s : List ℕ) (i : ℕ) (q : Bool) (b : Tells q (NoneOf (leb top) s i n)) (e : q ≡ true) where
-  pub block-fits : length s < 2 ^ 64 → Fits w64 (i + n)
-  block-fits l = record { fits = omega (arith, b .yes e .within) }
-
-  pub block-less : 0 < n → length s - (i + n) < length s - i
-  block-less h = omega (arith, b .yes e .within)
+  pub ascii-block : (top n i : ℕ) (q : Bool) → Ascii s from i → YesWhere q (NoneOf (leb top) s i n) → top ≤ 128 → q ≡ true → Ascii s from (i + n)
+  ascii-block top n i q a b t e = more s top n t from i a (b .yes e)
 
 -- ---- `plain` and `long_plain`
 
@@ -76,37 +64,31 @@ module _ (s : List ℕ) (from to : ℕ) where
   pub sure-not : Sure false s from to
   sure-not = record { yes = λ e. clash false e refl }
 
-  module _ (q : Bool) where
-    pub sure-16 : from < to → to - from ≤ 16 → Tells q (NoneOf (leb 127) s from 16) → Sure q s from to
-    sure-16 h l b = record { yes = λ e. covers s 127 16 (omega arith) from to from (omega arith) (ascii-none s from) from (omega arith) (b .yes e) (omega arith) }
+  module _ (top : ℕ) (q : Bool) (t : top ≤ 128) where
+    -- a span that is no longer than the block at its start
+    pub sure-short : (n : ℕ) → from < to → to - from ≤ n → YesWhere q (NoneOf (leb top) s from n) → Sure q s from to
+    sure-short n h l b = record { yes = λ e. covers s top n t from to from (omega arith) (ascii-none s from) from (omega arith) (b .yes e) (omega arith) }
 
-    pub sure-128 : from < to → to - from ≤ 128 → Tells q (NoneOf (leb 128) s from 128) → Sure q s from to
-    sure-128 h l b = record { yes = λ e. covers s 128 128 (omega arith) from to from (omega arith) (ascii-none s from) from (omega arith) (b .yes e) (omega arith) }
-
-    pub sure-long : (i : ℕ) → Ascii s from i → 128 ≤ to - from → to - i < 128 → Tells q (NoneOf (leb 128) s (to - 128) 128) → Sure q s from to
-    sure-long i a h l b = record {
-      yes = λ e. covers s 128 128 (omega arith) from to i (omega arith) a (to - 128) (omega arith) (b .yes e) (omega arith);
-    }
+    -- one that is as long at least, and the block at its end
+    pub sure-long : (n i : ℕ) → Ascii s from i → n ≤ to - from → to - i < n → YesWhere q (NoneOf (leb top) s (to - n) n) → Sure q s from to
+    sure-long n i a h l b = record { yes = λ e. covers s top n t from to i (omega arith) a (to - n) (omega arith) (b .yes e) (omega arith) }
 
 -- ---- the check over ASCII
 
 module _ (s : List ℕ) where
-  one : (i : ℕ) → check 0 s ≡ check i (drop i s) → i < length s → getD s i 0 < 128 → check 0 s ≡ check (i + 1) (drop (i + 1) s)
-  one i v h l = v ∙ ap (check i) (drop-next s i h) ∙ ascii i (getD s i 0) (drop (i + 1) s) (omega arith)
-
-  run : (i k : ℕ) → check 0 s ≡ check i (drop i s) → Ascii s i (i + k) → check 0 s ≡ check (i + k) (drop (i + k) s)
-  run i zero v a = v ∙ ap (λ (n : ℕ). check n (drop n s)) (omega arith)
-  run i (suc k) v a =
-      one (i + k) (run i k v (shorter a)) (omega (arith, a .within (omega arith))) (a .ascii (i + k) (omega arith) (omega arith))
-      ∙ ap (λ (n : ℕ). check n (drop n s)) (omega arith)
-    where
-      shorter : Ascii s i (i + suc k) → Ascii s i (i + k)
-      shorter a = record { low = omega arith; within = λ h. omega (arith, a .within (omega arith)); ascii = λ p h l. a .ascii p h (omega arith) }
-
   passed : (i p : ℕ) → check 0 s ≡ check i (drop i s) → Ascii s i p → check 0 s ≡ check p (drop p s)
-  passed i p v a =
-      let e : i + (p - i) ≡ p = omega (arith, a .low) in
-      run i (p - i) v (subst (Ascii s i) (sym e) a) ∙ ap (λ (n : ℕ). check n (drop n s)) e
+  passed i p v a = elim (decLt i p) [
+    | yes h ↦ let l = a .within h in
+        let n : length (take (p - i) (drop i s)) ≡ p - i = simp (length-take, length-drop) (omega arith) in
+        let e : i + length (take (p - i) (drop i s)) ≡ p = omega arith in
+        let w : i + (p - i) ≡ p = omega arith in
+        v ∙ ap (check i) (sym (take-append-drop (p - i) (drop i s)))
+        ∙ ascii-run i (take (p - i) (drop i s)) (drop (p - i) (drop i s))
+        (λ k m. let z : getD (take (p - i) (drop i s)) k 0 ≡ getD s (i + k) 0 = getD-take (p - i) (drop i s) k 0 (omega arith) ∙ getD-drop i s k 0 in
+        let y = a .ascii (i + k) (omega arith) (omega arith) in omega arith)
+        ∙ ap₂ check e (drop-drop (p - i) i s ∙ ap (λ (m : ℕ). drop m s) w)
+    | no h ↦ let e : i ≡ p = omega (arith, a .low) in v ∙ ap (λ (n : ℕ). check n (drop n s)) e
+  ]
 
   -- a byte of ASCII at i, and then as far as p
   module _ (i p : ℕ) (h : i < length s) (a : Ascii s (i + 1) p) where
@@ -117,7 +99,14 @@ module _ (s : List ℕ) where
     ]
 
     pub ascii-turn : check 0 s ≡ check i (drop i s) → getD s i 0 < 128 → check 0 s ≡ check p (drop p s)
-    ascii-turn v l = passed (i + 1) p (one i v h l) a
+    ascii-turn v l = passed i p v (record {
+      low = omega (arith, a .low);
+      within = λ g. ascii-room;
+      ascii = λ k g m. elim (decLt i k) [
+        | yes j ↦ a .ascii k (omega arith) m
+        | no j ↦ let e : i ≡ k = omega arith in subst (λ (n : ℕ). getD s n 0 < 128) e l
+      ];
+    })
 
 -- ---- `check`
 
@@ -136,4 +125,4 @@ module _ (s : List ℕ) (from to : ℕ) (a : Ascii s from to) where
 pub sure-well : (s : List ℕ) (from to : ℕ) (q : Bool) → Sure q s from to → q ≡ true → WellFormed ≡ check from (part s from to)
 sure-well s from to q u e = sym (well-formed from (part s from to) .1 (ascii-octets (part s from to) (bytes s from to (u .yes e))))
 
-pub ruleset ascii-turns = (all-turns, ascii-none, ascii-16, ascii-128, block-fits, block-less, sure-not, sure-16, sure-128, sure-long, ascii-room, ascii-turn, sure-well)
+pub ruleset ascii-turns = (all-turns, ascii-none, ascii-block, block-fits, block-less, sure-not, sure-short, sure-long, ascii-room, ascii-turn, sure-well)

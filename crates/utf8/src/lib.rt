@@ -122,7 +122,7 @@ pub fn check(s: &[u8], from: usize, to: usize) -> Utf8
     }
 }
 
-// Whether the span is ASCII as blocks show it. Those of a short one may end behind it. (Where the second byte is not ASCII, none is looked at.)
+// Whether the span is ASCII as blocks show it. Those of a short one may end behind it. (Where the byte after the first is not ASCII, none is looked at.)
 fn plain(s: &[u8], from: usize, to: usize) -> bool
     ensures { λ r. ⌜ Sure r (now (s .entry)) from to ⌝ }
 {
@@ -139,17 +139,18 @@ fn plain(s: &[u8], from: usize, to: usize) -> bool
     }
 }
 
-// The same of a span as long as a block: the last block ends where it ends.
+// The same of a span at least as long as a block: the last block ends where it ends.
 fn long_plain(s: &[u8], from: usize, to: usize) -> bool
     requires { ⌜ 128 ≤ to - from ⌝ }
     ensures { λ r. ⌜ Sure r (now (s .entry)) from to ⌝ }
 {
     let mut i = from;
     while 128 <= to - i {
-        if !below(s, i, 128, 128) {
+        if below(s, i, 128, 128) {
+            i += 128;
+        } else {
             return false;
         }
-        i += 128;
     }
     below(s, to - 128, 128, 128)
 }

@@ -25,8 +25,8 @@
 //! What is refused has a number, 1 to 17, and a place: see [`Error`]. A document has at most [`LONGEST`] bytes, at most [`MOST_NAMES`] names
 //! are open at once, and a document type is refused. Attributes and references are handed over as they stand.
 //!
-//! Nothing is shared between readers, so each may be used on a thread of its own. A reader allocates for the open names alone, and only
-//! when there are more of them than it has room for. Hosts that lend all memory themselves use [`lent`].
+//! Nothing is shared between readers, so each may be used on a thread of its own. A reader allocates
+//! room for open names, when it has none left for one more; a refusal owns the names that it tells. Hosts that lend all memory themselves use [`lent`].
 #![warn(missing_docs)]
 #![deny(unsafe_code)]
 
