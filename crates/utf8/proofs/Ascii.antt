@@ -14,11 +14,11 @@ use Rattle.ground.proofs.Choices.{clash}
 use Rattle.ground.proofs.Lists.{part-in, part-length, part-end}
 use Rattle.blocks.specs.Blocks.{NoneOf, YesWhere}
 use Rattle.blocks.proofs.Flags.{block-fits, block-less}
-use Rattle.utf8.specs.Utf8.{check}
-use Rattle.utf8.specs.Ascii.{Ascii, Sure}
-use Rattle.utf8.specs.declared.Utf8.the-variants.{WellFormed}
+use Rattle.utf8.specs.Utf8.{charLen, check}
+use Rattle.utf8.specs.Ascii.{Ascii, Sure, Reached}
+use Rattle.utf8.specs.declared.Utf8.the-variants.{WellFormed, IllFormed}
 use Rattle.utf8.proofs.Rfc.{ascii-run, ascii-octets, well-formed}
-use Rattle.utf8.proofs.Turns.{all-turns}
+use Rattle.utf8.proofs.Turns.{all-turns, all-end, all-ill}
 
 -- ---- blocks
 
@@ -90,23 +90,40 @@ module _ (s : List ℕ) where
     | no h ↦ let e : i ≡ p = omega (arith, a .low) in v ∙ ap (λ (n : ℕ). check n (drop n s)) e
   ]
 
-  -- a byte of ASCII at i, and then as far as p
-  module _ (i p : ℕ) (h : i < length s) (a : Ascii s (i + 1) p) where
-    pub ascii-room : p ≤ length s
-    ascii-room = elim (decLt (i + 1) p) [
-      | yes l ↦ a .within l
-      | no l ↦ omega (arith, a .low)
-    ]
+  -- ---- `by_chars`
 
-    pub ascii-turn : check 0 s ≡ check i (drop i s) → getD s i 0 < 128 → check 0 s ≡ check p (drop p s)
-    ascii-turn v l = passed i p v (record {
-      low = omega (arith, a .low);
-      within = λ g. ascii-room;
-      ascii = λ k g m. elim (decLt i k) [
-        | yes j ↦ a .ascii k (omega arith) m
-        | no j ↦ let e : i ≡ k = omega arith in subst (λ (n : ℕ). getD s n 0 < 128) e l
-      ];
-    })
+  module _ (from end i : ℕ) (low : from ≤ i) (within : i ≤ length s) (v : check 0 s ≡ check i (drop i s)) where
+    pub reached-end : end ≤ i → Reached s from end i
+    reached-end h = record { low = low; within = within; same = v; stuck = λ l. absurd (omega arith) }
+
+    pub reached-stuck : (n : ℕ) → n ≡ charLen (drop i s) → n ≡ 0 → Reached s from end i
+    reached-stuck n e z = record { low = low; within = within; same = v; stuck = λ l. sym e ∙ z }
+
+  pub ascii-one : (i end : ℕ) → end ≤ length s → check 0 s ≡ check i (drop i s) → i < end → getD s i 0 < 128 → check 0 s ≡ check (i + 1) (drop (i + 1) s)
+  ascii-one i end m v h l = passed i (i + 1) v (record {
+    low = omega arith;
+    within = λ g. omega arith;
+    ascii = λ k g j. let e : i ≡ k = omega arith in subst (λ (n : ℕ). getD s n 0 < 128) e l;
+  })
+
+  -- ---- `check_all`, which is told that r is reached
+
+  module _ (from end r : ℕ) (w : Reached s from end r) where
+    pub reached-all : length s ≤ r → WellFormed ≡ check 0 s
+    reached-all h = all-end s r (w .same) h
+
+    pub reached-ill : r < length s → r < end → IllFormed r ≡ check 0 s
+    reached-ill h l = all-ill s r 0 (sym (w .stuck l)) (w .same) h refl
+
+    module _ (p : ℕ) (a : Ascii s r p) where
+      pub past-room : p ≤ length s
+      past-room = elim (decLt r p) [
+        | yes l ↦ a .within l
+        | no l ↦ omega (arith, a .low, w .within)
+      ]
+
+      pub past-same : check 0 s ≡ check p (drop p s)
+      past-same = passed r p (w .same) a
 
 -- ---- `check`
 
@@ -125,4 +142,4 @@ module _ (s : List ℕ) (from to : ℕ) (a : Ascii s from to) where
 pub sure-well : (s : List ℕ) (from to : ℕ) (q : Bool) → Sure q s from to → q ≡ true → WellFormed ≡ check from (part s from to)
 sure-well s from to q u e = sym (well-formed from (part s from to) .1 (ascii-octets (part s from to) (bytes s from to (u .yes e))))
 
-pub ruleset ascii-turns = (all-turns, ascii-none, ascii-block, block-fits, block-less, sure-not, sure-short, sure-long, ascii-room, ascii-turn, sure-well)
+pub ruleset ascii-turns = (all-turns, ascii-none, ascii-block, block-fits, block-less, sure-not, sure-short, sure-long, ascii-one, reached-end, reached-stuck, reached-all, reached-ill, past-room, past-same, sure-well)

@@ -3,12 +3,12 @@ use blocks::below;
 use ground::byte_at;
 ghost use mathlib.Core.Path.{_≡_};
 ghost use mathlib.Core.List.{_∷_};
-ghost use Prim.Native.Nat.{_+_, _-_, _≤_, _<_};
+ghost use Prim.Native.Nat.{_+_, _-_, _≤_, _<_, min};
 ghost use lib.ListN.{length, getD, drop, replicate};
 ghost use Rattle.ground.specs.Choose.{pick};
 ghost use Rattle.ground.specs.Part.{part as partOf};
 ghost use Rattle.utf8.specs.Utf8.{utf8Tail, inRanges, charLen, check as checkOf};
-ghost use Rattle.utf8.specs.Ascii.{Ascii, Sure};
+ghost use Rattle.utf8.specs.Ascii.{Ascii, Sure, Reached};
 
 // What the check says of bytes: all are well formed, or where the first ill-formed sequence begins. No well-formed character starts there, and all before it
 // is well formed.
@@ -80,23 +80,50 @@ fn long_len(s: &[u8], at: usize) -> usize
     }
 }
 
-// The check of all the bytes: by characters, and by blocks where ASCII goes on.
+// The check of all the bytes: by characters for a stretch, and then past blocks of ASCII.
 fn check_all(s: &[u8]) -> Utf8
     ensures { λ r. ⌜ r ≡ checkOf 0 (now (s .entry)) ⌝ }
 {
     let mut i = 0;
-    while i < s.len() {
+    loop {
+        let end = stretch(s.len(), i);
+        i = by_chars(s, i, end);
+        if s.len() <= i {
+            return Utf8::WellFormed;
+        }
+        if i < end {
+            return Utf8::IllFormed(i);
+        }
+        i = past_ascii(s, i);
+    }
+}
+
+// Where a stretch that begins at `from` ends, of n bytes.
+fn stretch(n: usize, from: usize) -> usize
+    requires { ⌜ from ≤ n ⌝ }
+    ensures { λ r. ⌜ r ≡ min n (from + 256) ⌝ }
+{
+    if n - from < 256 { n } else { from + 256 }
+}
+
+// From `from` on by characters: up to `end`, or to where none starts.
+fn by_chars(s: &[u8], from: usize, end: usize) -> usize
+    requires { ⌜ (end ≤ length (now s)) × (from ≤ length (now s)) × (checkOf 0 (now s) ≡ checkOf from (drop from (now s))) ⌝ }
+    ensures { λ r. ⌜ Reached (now (s .entry)) from end r ⌝ }
+{
+    let mut i = from;
+    while i < end {
         if s[i] < 0x80 {
-            i = past_ascii(s, i + 1);
+            i += 1;
         } else {
             let n = char_len(s, i);
             if n == 0 {
-                return Utf8::IllFormed(i);
+                return i;
             }
             i += n;
         }
     }
-    Utf8::WellFormed
+    i
 }
 
 // Past blocks of ASCII, from `from` on. (A byte of 127 ends them: to ask for less than 127 takes fewer instructions than for less than 128.)

@@ -20,14 +20,10 @@ check-all-spec =
     Inv-loop
     μ-loop
     (λ c. search ascii-turns)
-    (λ c. search ascii-turns)
-    (λ c. search ascii-turns)
+    (λ c κs. search ascii-turns)
     (λ c κs. search ascii-turns)
     (λ c. search ascii-turns)
     (λ c. search ascii-turns)
     (λ c κs. search ascii-turns)
-    (λ c. search ascii-turns)
-    (λ c. search ascii-turns)
-    (λ c. search ascii-turns)
     (λ c. search ascii-turns)
     (λ c. search ascii-turns))
