@@ -230,9 +230,19 @@ fn borders(recorder: &mut Recorder) {
             look(&[b"<", &name, b"></", &other, b">"]);
         }
     }
-    // no UTF-8 in a block that is neither the first of its text nor the last
-    let text = [&[b't'; 140][..], b"\xFF", &[b't'; 140], b"<"].concat();
-    recorder.look(&Case { document: &text, settings: DEFAULT, slots: 16 });
+    // no UTF-8 in a block that is neither the first of its text nor the last; and behind 256 bytes, for which a text that is not ASCII is checked by characters
+    let (t, e) = ([b't'; 300], b"\xC3\xA9");
+    let long: [&[&[u8]]; 5] = [
+        &[&t[..140], b"\xFF", &t[..140]],
+        &[e, &t[..260], b"\x80", &t[..20]],
+        &[e, &t[..270], b"\xFF", &t[..20]],
+        &[&t[..255], e, &t[..20]],
+        &[e, &t[..254], &[0xFF; 16]],
+    ];
+    for parts in long {
+        let document = [&parts.concat(), &b"<"[..]].concat();
+        recorder.look(&Case { document: &document, settings: DEFAULT, slots: 16 });
+    }
 }
 
 /// Picks the cases: those at borders, those that show something new out of all families, then random ones up to the number wanted.
