@@ -19,40 +19,50 @@ use std::path::{Path, PathBuf};
 use std::process::ExitCode;
 use std::{env, fs};
 
-const USAGE: &str = "usage: speed [--quick | --rounds N | --growth] [--also NAME=PATH].. | --describe | --write FOLDER";
+const USAGE: &str = "\
+usage: speed [--quick | --rounds N] [--trim] [--beside NAME=PATH] [--also NAME=PATH].. | --growth [--also NAME=PATH].. | --describe | --write FOLDER";
 
 /// How many rounds there are: enough for the times to settle, and for a look.
 const ROUNDS: usize = 1000;
 const QUICK: usize = 200;
 
 enum Wish {
-    Table { rounds: usize, also: Vec<Also> },
-    Growth { also: Vec<Also> },
+    Table { trim: bool, rounds: usize, beside: Option<Build>, also: Vec<Build> },
+    Growth { also: Vec<Build> },
     Describe,
     Write(PathBuf),
 }
 
 /// Another build of the archive: its column's name, and the shared object.
-struct Also {
+struct Build {
     name: String,
     path: PathBuf,
 }
 
+fn build(argument: &str) -> Option<Build> {
+    argument.split_once('=').map(|(name, path)| Build { name: name.into(), path: path.into() })
+}
+
 fn wish() -> Option<Wish> {
-    let (mut rounds, mut growth, mut also) = (ROUNDS, false, Vec::new());
+    let (mut trim, mut rounds, mut growth, mut beside, mut also) = (false, ROUNDS, false, None, Vec::new());
     let mut arguments = env::args().skip(1);
     while let Some(argument) = arguments.next() {
         match argument.as_str() {
             "--quick" => rounds = QUICK,
             "--rounds" => rounds = arguments.next()?.parse().ok().filter(|&rounds| rounds > 0)?,
             "--growth" => growth = true,
-            "--also" => also.push(arguments.next()?.split_once('=').map(|(name, path)| Also { name: name.into(), path: path.into() })?),
+            "--trim" => trim = true,
+            "--beside" => beside = Some(build(&arguments.next()?)?),
+            "--also" => also.push(build(&arguments.next()?)?),
             "--describe" => return Some(Wish::Describe),
             "--write" => return Some(Wish::Write(arguments.next()?.into())),
             _ => return None,
         }
     }
-    Some(if growth { Wish::Growth { also } } else { Wish::Table { rounds, also } })
+    match growth {
+        false => Some(Wish::Table { trim, rounds, beside, also }),
+        true => (!trim && beside.is_none()).then_some(Wish::Growth { also }),
+    }
 }
 
 fn main() -> ExitCode {
@@ -61,7 +71,7 @@ fn main() -> ExitCode {
         return ExitCode::from(2);
     };
     let done = match wish {
-        Wish::Table { rounds, also } => table(rounds, also),
+        Wish::Table { trim, rounds, beside, also } => table(trim, rounds, beside, also),
         Wish::Growth { also } => growth(also),
         Wish::Describe => {
             inputs::describe();
@@ -78,28 +88,35 @@ fn main() -> ExitCode {
     }
 }
 
-/// The crate, and our functions in each build.
-fn builds(also: Vec<Also>) -> Result<Vec<Box<dyn Runner>>, String> {
-    let mut runners: Vec<Box<dyn Runner>> = vec![Box::new(QuickXml), Box::new(Archive::new("ours".into(), Linked))];
-    for Also { name, path } in also {
-        runners.push(Box::new(Archive::new(name, Shared::open(&path)?)));
+/// The one that all others are held to, where it is not the crate; the crate, and our functions in each build.
+fn builds(beside: Option<Build>, also: Vec<Build>) -> Result<Vec<Box<dyn Runner>>, String> {
+    let mut runners = beside.map(shared).into_iter().collect::<Result<Vec<_>, _>>()?;
+    runners.push(Box::new(QuickXml));
+    runners.push(Box::new(Archive::new("ours".into(), Linked)));
+    for build in also {
+        runners.push(shared(build)?);
     }
     Ok(runners)
 }
 
-fn table(rounds: usize, also: Vec<Also>) -> Result<(), String> {
-    let mut runners = builds(also)?;
+fn shared(build: Build) -> Result<Box<dyn Runner>, String> {
+    Ok(Box::new(Archive::new(build.name, Shared::open(&build.path)?)))
+}
+
+fn table(trim: bool, rounds: usize, beside: Option<Build>, also: Vec<Build>) -> Result<(), String> {
+    let mut runners = builds(beside, also)?;
     runners.push(Box::new(Package));
     #[cfg(feature = "expat")]
     runners.push(Box::new(runners::expat::Expat));
     #[cfg(feature = "libxml2")]
     runners.push(Box::new(runners::libxml2::LibXml2));
     machine::print();
-    table::run(&mut runners, rounds)
+    let rows = if trim { table::trimmed() } else { table::rows() };
+    table::run(&rows, &mut runners, rounds)
 }
 
-fn growth(also: Vec<Also>) -> Result<(), String> {
-    let mut runners = builds(also)?;
+fn growth(also: Vec<Build>) -> Result<(), String> {
+    let mut runners = builds(None, also)?;
     machine::print();
     growth::run(&mut runners)
 }
@@ -107,7 +124,7 @@ fn growth(also: Vec<Also>) -> Result<(), String> {
 /// Writes the inputs, each to a file of its name.
 fn write(folder: &Path) -> Result<(), String> {
     fs::create_dir_all(folder).map_err(|error| format!("{}: {error}", folder.display()))?;
-    inputs::ALL.iter().try_for_each(|input| {
+    inputs::ALL.iter().chain(&inputs::WHITE).try_for_each(|input| {
         let path = folder.join(input.name).with_extension("xml");
         fs::write(&path, (input.make)(table::LENGTH)).map_err(|error| format!("{}: {error}", path.display()))
     })

@@ -9,7 +9,7 @@ use crate::runners::{Runner, Settings, Tally};
 pub const LENGTH: usize = 65_536;
 
 /// The inputs under the default settings, and the indented one trimmed.
-fn rows() -> Vec<Row> {
+pub fn rows() -> Vec<Row> {
     let default = inputs::ALL.iter().map(|input| (input, Settings::default(), ""));
     let trimmed = inputs::ALL.iter().filter(|input| input.name == "netex");
     let trimmed = trimmed.map(|input| (input, Settings { trim_text: true, ..Settings::default() }, ", trimmed"));
@@ -19,19 +19,28 @@ fn rows() -> Vec<Row> {
         .collect()
 }
 
+/// The inputs about white space, trimmed.
+pub fn trimmed() -> Vec<Row> {
+    let settings = Settings { trim_text: true, ..Settings::default() };
+    inputs::WHITE.iter().map(|input| Row { name: input.name.into(), document: (input.make)(LENGTH), settings }).collect()
+}
+
 /// Measures and prints. The first runner is the one that the others are held to.
-pub fn run(runners: &mut [Box<dyn Runner>], count: usize) -> Result<(), String> {
-    let rows = rows();
+pub fn run(rows: &[Row], runners: &mut [Box<dyn Runner>], count: usize) -> Result<(), String> {
     let tallies = rows.iter().map(|row| told(row, runners)).collect::<Result<Vec<_>, _>>()?;
-    let samples = rounds(&rows, runners, count);
+    let samples = rounds(rows, runners, count);
     println!("rounds:    {count}, each runner once on each input in each");
     println!();
-    let mut head = vec!["input", "bytes", "events", "quick-xml µs", "ns an event", "ns a byte"];
+    let first = format!("{} µs", runners[0].name());
+    let mut head = vec!["input", "bytes", "events", &first, "ns an event", "ns a byte"];
     head.extend(runners[1..].iter().map(|runner| runner.name()));
     let lines: Vec<_> = rows.iter().zip(tallies).zip(&samples).map(|((row, tally), samples)| line(row, tally, samples)).collect();
     grid::print(&head, &lines);
     println!();
-    println!("The columns behind the crate's are ratios to its time: least time over least time / the median of the rounds' ratios.");
+    println!(
+        "The columns behind it are ratios to the time of {}: least time over least time / the median of the rounds' ratios.",
+        runners[0].name()
+    );
     Ok(())
 }
 

@@ -8,6 +8,7 @@ mod longtext;
 mod netex;
 mod timetable;
 mod utf8;
+mod white;
 mod words;
 
 pub struct Input {
@@ -21,6 +22,9 @@ pub struct Input {
 /// The three of the request come first.
 pub const ALL: [Input; 7] = [timetable::INPUT, longtext::INPUT, comments::INPUT, netex::INPUT, utf8::INPUT, deep::INPUT, cdata::INPUT];
 pub const REQUESTED: usize = 3;
+
+/// Those of `--trim`, which are read with text trimmed.
+pub const WHITE: [Input; 7] = white::INPUTS;
 
 /// What holds for every input.
 pub const RULES: &str = "\
@@ -54,7 +58,7 @@ fn time(minutes: usize) -> String {
 /// The rules, and below them each input's name, description and words.
 pub fn describe() {
     println!("{RULES}");
-    for input in &ALL {
+    for input in ALL.iter().chain(&WHITE) {
         println!("{}: {}\n", input.name, input.description);
     }
     println!("The stops: {}.\n", words::STOPS.join(", "));
