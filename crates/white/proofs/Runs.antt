@@ -2,12 +2,13 @@
 use Prim.Native.Nat.{ℕ, zero, suc, _+_, _-_, _^_, _≤_, _<_}
 use mathlib.Core.Path.{_≡_, refl, sym, ap, _∙_}
 use mathlib.Core.List.{List, [], _∷_}
-use mathlib.Core.Bool.{Bool, true, false, not, _||_}
+use mathlib.Core.Bool.{Bool, true, false, not, _||_, _&&_}
 use native.Mathlib.Numerals.{add-one}
 use native.Mathlib.Omega.{arith}
 use native.Mathlib.Decide.{decLt}
 use lib.Dec.{leb}
 use lib.ListN.{length, getD, drop, length-drop}
+use lib.Seq.{getD-drop}
 use mir.Val.{Fits}
 use mir.Syntax.{w64}
 use borrow.Author.Tests.{le-leb, lt-leb, leb-true, leb-false, not-false}
@@ -43,22 +44,23 @@ module _ (test : ℕ → Bool) (s : List ℕ) (i : ℕ) where
   unfolding until
   until-next h e = rw (drop-next s i h, e)
 
-  -- where it is not the next byte, there is a next one that does not pass
-  until-some : 0 < until test (drop i s) → (i < length s) × (test (getD s i 0) ≡ false)
-  until-some h =
-      elim (decLt i (length s)) [
-        | yes l ↦ (l, by (test (getD s i 0)) refl l)
-        | no l ↦ absurd (omega (arith, until-end (omega arith)))
-      ]
-    where
-      by : (x : Bool) → test (getD s i 0) ≡ x → i < length s → test (getD s i 0) ≡ false
-      by true e l = absurd (omega (arith, until-here l e))
-      by false e l = e
+module _ (test : ℕ → Bool) where
+  pub until-within : (bs : List ℕ) → until test bs ≤ length bs
+  unfolding until
+  until-within [] = omega arith
+  until-within (b ∷ bs) = pick-cases (λ (n : ℕ). n ≤ suc (length bs)) (test b) _ _ (λ e. omega arith) (λ e. omega (arith, until-within bs))
 
-pub until-within : (test : ℕ → Bool) (bs : List ℕ) → until test bs ≤ length bs
-unfolding until
-until-within test [] = omega arith
-until-within test (b ∷ bs) = pick-cases (λ (n : ℕ). n ≤ suc (length bs)) (test b) _ _ (λ e. omega arith) (λ e. omega (arith, until-within test bs))
+  -- no byte before it passes
+  pub until-before : (bs : List ℕ) (k : ℕ) → k < until test bs → (k < length bs) × (test (getD bs k 0) ≡ false)
+  unfolding until
+  until-before [] k h = absurd (omega arith)
+  until-before (b ∷ bs) k h = by (test b) refl (until-before bs) k h
+    where
+      by : (x : Bool) → test b ≡ x → ((k : ℕ) → k < until test bs → (k < length bs) × (test (getD bs k 0) ≡ false))
+          → (k : ℕ) → k < pick x 0 (until test bs + 1) → (k < suc (length bs)) × (test (getD (b ∷ bs) k 0) ≡ false)
+      by true e r k h = absurd (omega arith)
+      by false e r zero h = (omega arith, e)
+      by false e r (suc k) h = let g = r k (omega arith) in (omega arith, g .1)
 
 -- a loop that looks for the first white space of s, and stands at i
 module _ (s : List ℕ) (n i : ℕ) (v : n ≡ i + until isWhite (drop i s)) where
@@ -79,23 +81,26 @@ run-start test p s e = omega (arith, ap (until test) e)
 
 pub ruleset until-turns = (needs, run-start, name-past, name-here, name-turn)
 
--- ---- w bytes at once, where so many stand before it
+-- ---- w bytes at once, none of which passes the test
 
-module _ (test : ℕ → Bool) (s : List ℕ) where
-  until-at : (i j : ℕ) → i ≡ j → until test (drop i s) ≡ until test (drop j s)
-  until-at i j e = ap (λ (k : ℕ). until test (drop k s)) e
+until-same : (test : ℕ → Bool) (s : List ℕ) (j k : ℕ) → j ≡ k → until test (drop j s) ≡ until test (drop k s)
+until-same test s j k e = ap (λ (m : ℕ). until test (drop m s)) e
 
-  until-skip : (i w : ℕ) → w ≤ until test (drop i s) → until test (drop i s) ≡ w + until test (drop (i + w) s)
-  until-skip i zero h = omega (arith, until-at i (i + 0) (omega arith))
-  until-skip i (suc w) h = by (until-skip i w (omega arith))
-    where
-      by : until test (drop i s) ≡ w + until test (drop (i + w) s) → until test (drop i s) ≡ suc w + until test (drop (i + suc w) s)
-      by r =
-          let there = until-some test s (i + w) (omega arith) in
-          omega (arith, until-next test s (i + w) (there .0) (there .1), until-at (i + w + 1) (i + suc w) (omega arith))
+module _ (test : ℕ → Bool) (s : List ℕ) (i : ℕ) where
+  until-byte : (k : ℕ) → k < until test (drop i s) → (i + k < length s) × (test (getD s (i + k) 0) ≡ false)
+  until-byte k h =
+      let g = until-before test (drop i s) k h in
+      (omega (arith, g .0, length-drop i s), ap test (sym (getD-drop i s k 0)) ∙ g .1)
 
-  until-inside : (i : ℕ) → until test (drop i s) ≤ length s - i
-  until-inside i = omega (arith, until-within test (drop i s), length-drop i s)
+  until-skip : (w : ℕ) → w ≤ until test (drop i s) → until test (drop i s) ≡ w + until test (drop (i + w) s)
+  until-skip zero h = omega (arith, until-same test s i (i + 0) (omega arith))
+  until-skip (suc w) h =
+      let there = until-byte w (omega arith) in
+      let r = until-skip w (omega arith) in
+      omega (arith, r, until-next test s (i + w) (there .0) (there .1), until-same test s (i + w + 1) (i + suc w) (omega arith))
+
+  until-inside : until test (drop i s) ≤ length s - i
+  until-inside = omega (arith, until-within test (drop i s), length-drop i s)
 
 -- what holds of a loop that counts white space in front and stands at i: the answer is i and the answer for what is left there
 abbrev pub Led : List ℕ → ℕ → Type 0
@@ -121,104 +126,103 @@ module _ (s : List ℕ) (i w : ℕ) (x : Bool) (q : x ≡ leb w (until notWhite 
 pub lead-here : (s : List ℕ) (i : ℕ) (x : Bool) → x ≡ leb 1 (until notWhite (drop i s)) → x ≡ false → Led s i → i ≡ leading s
 lead-here s i x q e v = omega (arith, v .1, leb-false 1 (until notWhite (drop i s)) (sym q ∙ e))
 
--- ---- the flag over w bytes: whether another byte than white space is among the first k at i
+-- ---- a flag over w bytes at i
 
 module _ (s : List ℕ) (i : ℕ) where
-  abbrev pub other : ℕ → Bool
-  other k = not (leb k (until notWhite (drop i s)))
+  -- whether the first k are white space
+  abbrev pub white : ℕ → Bool
+  white k = leb k (until notWhite (drop i s))
 
-  pub flag-start : false ≡ other 0
-  flag-start = ap not (sym (le-leb 0 (until notWhite (drop i s)) (omega arith)))
+  pub flag-start : true ≡ white 0
+  flag-start = sym (le-leb 0 (until notWhite (drop i s)) (omega arith))
 
-  module _ (w k : ℕ) (o : Bool) (v : o ≡ other k) where
-    pub flag-turn : w ≤ length s - i → k < w → (x : Bool) → x ≡ isWhite (getD s (i + k) 0) → (o || not x) ≡ other (k + 1)
-    flag-turn r l x q = ap (λ (f : Bool). f || not x) v ∙ by (leb k (until notWhite (drop i s))) refl x q
+  module _ (w k : ℕ) (a : Bool) (v : a ≡ white k) where
+    -- where x is what a call says of the next
+    pub flag-turn : w ≤ length s - i → k < w → (x : Bool) → x ≡ isWhite (getD s (i + k) 0) → (a && x) ≡ white (k + 1)
+    flag-turn r l x q = ap (λ (b : Bool). b && x) v ∙ by (white k) refl x q
       where
-        h : i + k < length s
-        h = omega arith
+        by : (b : Bool) → white k ≡ b → (y : Bool) → y ≡ isWhite (getD s (i + k) 0) → (b && y) ≡ white (k + 1)
+        by false g y p = sym (lt-leb (k + 1) _ (omega (arith, leb-false k _ g)))
+        by true g true p =
+            sym (le-leb (k + 1) _ (omega (arith, until-skip notWhite s i k (leb-true k _ g), until-next notWhite s (i + k) (omega arith) (ap not (sym p)))))
+        by true g false p =
+            sym (lt-leb (k + 1) _ (omega (arith, until-skip notWhite s i k (leb-true k _ g), until-here notWhite s (i + k) (omega arith) (ap not (sym p)))))
 
-        by : (l : Bool) → leb k (until notWhite (drop i s)) ≡ l → (x : Bool) → x ≡ isWhite (getD s (i + k) 0) → (not l || not x) ≡ other (k + 1)
-        by false g x q = ap not (sym (lt-leb (k + 1) _ (omega (arith, leb-false k _ g))))
-        by true g true q =
-            ap not (sym (le-leb (k + 1) _ (omega (arith, until-skip notWhite s i k (leb-true k _ g), until-next notWhite s (i + k) h (ap not (sym q))))))
-        by true g false q =
-            ap not (sym (lt-leb (k + 1) _ (omega (arith, until-skip notWhite s i k (leb-true k _ g), until-here notWhite s (i + k) h (ap not (sym q))))))
+    pub flag-end : w ≤ k → k ≤ w → a ≡ white w
+    flag-end h l = let e : k ≡ w = omega arith in v ∙ ap white e
 
-    pub flag-end : w ≤ k → k ≤ w → not o ≡ leb w (until notWhite (drop i s))
-    flag-end h l = ap not v ∙ by (leb k (until notWhite (drop i s))) ∙ ap (λ (j : ℕ). leb j (until notWhite (drop i s))) (omega arith)
-      where
-        by : (l : Bool) → not (not l) ≡ l
-        by true = refl
-        by false = refl
-
-  pub flag-short : (w : ℕ) → length s - i < w → false ≡ leb w (until notWhite (drop i s))
+  pub flag-short : (w : ℕ) → length s - i < w → false ≡ white w
   flag-short w h = sym (lt-leb w _ (omega (arith, until-inside notWhite s i)))
 
 pub ruleset flag-turns = (needs, flag-start, flag-turn, flag-end, flag-short)
 
 -- ---- cutting white space back from the end
 
-pub kept-here : (s : List ℕ) (n : ℕ) → isWhite (getD s n 0) ≡ false → keptOf s (n + 1) ≡ n + 1
-unfolding keptOf
-kept-here s n e = rw (add-one, e)
-
-pub kept-less : (s : List ℕ) (n : ℕ) → isWhite (getD s n 0) ≡ true → keptOf s (n + 1) ≡ keptOf s n
-unfolding keptOf
-kept-less s n e = rw (add-one, e)
-
 pub kept-within : (s : List ℕ) (n : ℕ) → keptOf s n ≤ n
 unfolding keptOf
 kept-within s zero = omega arith
 kept-within s (suc n) = pick-cases (λ (k : ℕ). k ≤ suc n) (isWhite (getD s n 0)) _ _ (λ e. omega (arith, kept-within s n)) (λ e. omega arith)
 
-kept-at : (s : List ℕ) (j k : ℕ) → j ≡ k → keptOf s j ≡ keptOf s k
-kept-at s j k e = ap (keptOf s) e
+kept-less : (s : List ℕ) (n : ℕ) → isWhite (getD s n 0) ≡ true → keptOf s (n + 1) ≡ keptOf s n
+unfolding keptOf
+kept-less s n e = rw (add-one, e)
 
--- where of the first i + w bytes the last w are cut
+-- of the first n bytes, those after the kept ones are white space
+pub kept-rest : (s : List ℕ) (n k : ℕ) → keptOf s n ≤ k → k < n → isWhite (getD s k 0) ≡ true
+unfolding keptOf
+kept-rest s zero k h l = absurd (omega arith)
+kept-rest s (suc n) k h l = by (isWhite (getD s n 0)) refl (kept-rest s n k) h
+  where
+    by : (x : Bool) → isWhite (getD s n 0) ≡ x → (keptOf s n ≤ k → k < n → isWhite (getD s k 0) ≡ true)
+        → pick x (keptOf s n) (suc n) ≤ k → isWhite (getD s k 0) ≡ true
+    by true e r h =
+        elim (decLt k n) [
+          | yes m ↦ r h m
+          | no m ↦ ap (λ (j : ℕ). isWhite (getD s j 0)) (omega arith) ∙ e
+        ]
+    by false e r h = absurd (omega arith)
+
+kept-same : (s : List ℕ) (j k : ℕ) → j ≡ k → keptOf s j ≡ keptOf s k
+kept-same s j k e = ap (keptOf s) e
+
 module _ (s : List ℕ) (i : ℕ) where
-  kept-back : (w : ℕ) → keptOf s (i + suc w) ≤ i → (isWhite (getD s (i + w) 0) ≡ true) × (keptOf s (i + suc w) ≡ keptOf s (i + w))
-  kept-back w h = by (isWhite (getD s (i + w) 0)) refl
-    where
-      next : keptOf s (i + suc w) ≡ keptOf s (i + w + 1)
-      next = kept-at s (i + suc w) (i + w + 1) (omega arith)
+  kept-back : (w : ℕ) → isWhite (getD s (i + w) 0) ≡ true → keptOf s (i + suc w) ≡ keptOf s (i + w)
+  kept-back w e = kept-same s (i + suc w) (i + w + 1) (omega arith) ∙ kept-less s (i + w) e
 
-      by : (x : Bool) → isWhite (getD s (i + w) 0) ≡ x → (isWhite (getD s (i + w) 0) ≡ true) × (keptOf s (i + suc w) ≡ keptOf s (i + w))
-      by true e = (e, next ∙ kept-less s (i + w) e)
-      by false e = absurd (omega (arith, next, kept-here s (i + w) e))
+  -- where of the first i + w bytes the last w are cut, as much is left of the first i
+  kept-skip : (w : ℕ) → keptOf s (i + w) ≤ i → keptOf s (i + w) ≡ keptOf s i
+  kept-skip zero h = kept-same s (i + 0) i (omega arith)
+  kept-skip (suc w) h = let g = kept-back w (kept-rest s (i + suc w) (i + w) (omega arith) (omega arith)) in g ∙ kept-skip w (omega arith)
 
-  -- as much is left of the first i
-  kept-same : (w : ℕ) → keptOf s (i + w) ≤ i → keptOf s (i + w) ≡ keptOf s i
-  kept-same zero h = kept-at s (i + 0) i (omega arith)
-  kept-same (suc w) h = let g = kept-back w h .1 in g ∙ kept-same w (omega arith)
-
-  -- they are white space
+  -- and they are white space
   cut-white : (w : ℕ) → i + w ≤ length s → keptOf s (i + w) ≤ i → w ≤ until notWhite (drop i s)
   cut-white zero l h = omega arith
   cut-white (suc w) l h =
-      let g = kept-back w h in
-      let r = cut-white w (omega arith) (omega (arith, g .1)) in
-      omega (arith, until-skip notWhite s i w r, until-next notWhite s (i + w) (omega arith) (ap not (g .0)))
+      let e = kept-rest s (i + suc w) (i + w) (omega arith) (omega arith) in
+      let r = cut-white w (omega arith) (omega (arith, kept-back w e)) in
+      omega (arith, until-skip notWhite s i w r, until-next notWhite s (i + w) (omega arith) (ap not e))
 
-  -- and white space is cut
+  -- white space is cut
   white-cut : (w : ℕ) → w ≤ until notWhite (drop i s) → keptOf s (i + w) ≤ i
   white-cut zero h = omega (arith, kept-within s (i + 0))
-  white-cut (suc w) h =
-      let there = until-some notWhite s (i + w) (omega (arith, until-skip notWhite s i w (omega arith))) in
-      omega (arith, white-cut w (omega arith), kept-at s (i + suc w) (i + w + 1) (omega arith), kept-less s (i + w) (not-false _ (there .1)))
+  white-cut (suc w) h = omega (arith, white-cut w (omega arith), kept-back w (not-false _ (until-byte notWhite s i w (omega arith) .1)))
 
 -- whether the first e bytes end with w bytes of white space
 module _ (s : List ℕ) (e w : ℕ) where
-  pub ends-short : e < w → false ≡ leb (keptOf s e + w) e
-  ends-short h = sym (lt-leb (keptOf s e + w) e (omega arith))
+  pub ends-short : e < w → false ≡ leb w (e - keptOf s e)
+  ends-short h = sym (lt-leb w _ (omega arith))
 
-  pub ends-so : w ≤ e → e ≤ length s → (x : Bool) → x ≡ leb w (until notWhite (drop (e - w) s)) → x ≡ leb (keptOf s e + w) e
+  -- where x is what a call says of the last w
+  pub ends-so : w ≤ e → e ≤ length s → (x : Bool) → x ≡ leb w (until notWhite (drop (e - w) s)) → x ≡ leb w (e - keptOf s e)
   ends-so h l true q =
-      sym (le-leb _ e (omega (arith, kept-at s (e - w + w) e (omega arith), white-cut s (e - w) w (leb-true w _ (sym q)))))
-  ends-so h l false q = sym (lt-leb _ e (by (decLt (e - w) (keptOf s e))))
+      sym (le-leb w _ (omega (arith, kept-same s (e - w + w) e (omega arith), white-cut s (e - w) w (leb-true w _ (sym q)))))
+  ends-so h l false q = sym (lt-leb w _ (by (decLt (e - keptOf s e) w)))
     where
-      by : Dec (e - w < keptOf s e) → e < keptOf s e + w
-      by (yes m) = omega arith
-      by (no m) = absurd (omega (arith, leb-false w _ (sym q), cut-white s (e - w) w (omega arith) (omega (arith, kept-at s (e - w + w) e (omega arith)))))
+      by : Dec (e - keptOf s e < w) → e - keptOf s e < w
+      by (yes m) = m
+      by (no m) =
+          let r = cut-white s (e - w) w (omega arith) (omega (arith, kept-same s (e - w + w) e (omega arith), kept-within s e)) in
+          absurd (omega (arith, r, leb-false w _ (sym q)))
 
 pub ruleset ends-turns = (needs, ends-short, ends-so)
 
@@ -230,20 +234,24 @@ pub cut-start : (s : List ℕ) → Cut s (length s)
 cut-start s = (omega arith, refl)
 
 -- where x is what a call says of the w bytes before it
-module _ (s : List ℕ) (e w : ℕ) (x : Bool) (q : x ≡ leb (keptOf s e + w) e) (f : x ≡ true) where
-  pub cut-some : w ≤ e
-  cut-some = omega (arith, leb-true (keptOf s e + w) e (sym q ∙ f))
+module _ (s : List ℕ) (e w : ℕ) (x : Bool) (q : x ≡ leb w (e - keptOf s e)) (f : x ≡ true) where
+  enough : w ≤ e - keptOf s e
+  enough = leb-true w _ (sym q ∙ f)
+
+  pub cut-fits : w ≤ e
+  cut-fits = omega (arith, enough)
 
   pub cut-less : 0 < w → e - w < e
-  cut-less h = omega (arith, cut-some)
+  cut-less h = omega (arith, enough)
 
   pub cut-turn : Cut s e → Cut s (e - w)
   cut-turn v =
-      let same = kept-at s (e - w + w) e (omega (arith, cut-some)) in
-      (omega (arith, v .0), omega (arith, v .1, same, kept-same s (e - w) w (omega (arith, same, leb-true (keptOf s e + w) e (sym q ∙ f)))))
+      let g = kept-same s (e - w + w) e (omega (arith, enough)) in
+      let r = kept-skip s (e - w) w (omega (arith, g, enough, kept-within s e)) in
+      (omega (arith, v .0), omega (arith, v .1, g, r))
 
-pub cut-here : (s : List ℕ) (e : ℕ) (x : Bool) → x ≡ leb (keptOf s e + 1) e → x ≡ false → Cut s e → e ≡ kept s
-cut-here s e x q f v = omega (arith, v .1, leb-false (keptOf s e + 1) e (sym q ∙ f), kept-within s e)
+pub cut-here : (s : List ℕ) (e : ℕ) (x : Bool) → x ≡ leb 1 (e - keptOf s e) → x ≡ false → Cut s e → e ≡ kept s
+cut-here s e x q f v = omega (arith, v .1, leb-false 1 (e - keptOf s e) (sym q ∙ f), kept-within s e)
 
 -- ---- how many bytes of a span are counted, as a position of the slice, whatever the span
 

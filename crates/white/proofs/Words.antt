@@ -12,7 +12,7 @@ use lib.ListN.{length, getD}
 use Rattle.ground.specs.Choose.{pick}
 use Rattle.ground.specs.Least.{Least}
 use Rattle.ground.proofs.Choices.{clash}
-use Rattle.white.proofs.Runs.{kept-within}
+use Rattle.white.proofs.Runs.{until-before, kept-within, kept-rest}
 use Rattle.white.specs.White.{isWhite, notWhite, until, nameLen, leading, keptOf, kept, EndsAt, WhiteFrom}
 
 -- ---- the first byte that passes a test
@@ -29,18 +29,6 @@ module _ (test : ℕ → Bool) where
       by false e r =
           ⊎-elim (λ h. inl (omega arith))
           (λ h. inr (omega arith, ap (λ (n : ℕ). test (getD (b ∷ bs) n 0)) (add-one (until test bs)) ∙ h .1)) r
-
-  -- and none before
-  until-before : (bs : List ℕ) (k : ℕ) → k < until test bs → (k < length bs) × (test (getD bs k 0) ≡ false)
-  unfolding until
-  until-before [] k h = absurd (omega arith)
-  until-before (b ∷ bs) k h = by (test b) refl (until-before bs) k h
-    where
-      by : (x : Bool) → test b ≡ x → ((k : ℕ) → k < until test bs → (k < length bs) × (test (getD bs k 0) ≡ false))
-          → (k : ℕ) → k < pick x 0 (until test bs + 1) → (k < suc (length bs)) × (test (getD (b ∷ bs) k 0) ≡ false)
-      by true e r k h = absurd (omega arith)
-      by false e r zero h = (omega arith, e)
-      by false e r (suc k) h = let g = r k (omega arith) in (omega arith, g .1)
 
 until-least : (test : ℕ → Bool) (bs : List ℕ) → Least (EndsAt test bs) (until test bs)
 until-least test bs =
@@ -59,22 +47,7 @@ leading-least bs = until-least notWhite bs
 
 -- ---- trailing white space
 
--- of the first n bytes, those after the kept ones are white space
-kept-rest : (s : List ℕ) (n k : ℕ) → keptOf s n ≤ k → k < n → isWhite (getD s k 0) ≡ true
-unfolding keptOf
-kept-rest s zero k h l = absurd (omega arith)
-kept-rest s (suc n) k h l = by (isWhite (getD s n 0)) refl (kept-rest s n k) h
-  where
-    by : (x : Bool) → isWhite (getD s n 0) ≡ x → (keptOf s n ≤ k → k < n → isWhite (getD s k 0) ≡ true)
-        → pick x (keptOf s n) (suc n) ≤ k → isWhite (getD s k 0) ≡ true
-    by true e r h =
-        elim (decLt k n) [
-          | yes m ↦ r h m
-          | no m ↦ ap (λ (j : ℕ). isWhite (getD s j 0)) (omega arith) ∙ e
-        ]
-    by false e r h = absurd (omega arith)
-
--- and the last kept one is not
+-- of the first n bytes, the last kept one is not white space
 kept-last : (s : List ℕ) (n : ℕ) → 0 < keptOf s n → isWhite (getD s (keptOf s n - 1) 0) ≡ false
 unfolding keptOf
 kept-last s zero h = absurd (omega arith)

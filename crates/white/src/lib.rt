@@ -1,10 +1,13 @@
 // White space (XML 1.0, production 3), and the runs of bytes that it bounds.
 ghost use mathlib.Core.Path.{_≡_};
-ghost use Prim.Native.Nat.{_+_, _≤_};
+ghost use Prim.Native.Nat.{_+_, _-_, _≤_};
 ghost use lib.Dec.{leb};
 ghost use lib.ListN.{length, drop};
 ghost use Rattle.ground.specs.Part.{part as partOf};
 ghost use Rattle.white.specs.White.{isWhite, nameLen, leading, keptOf, kept};
+
+// How many bytes of white space are passed at once.
+const BLOCK: usize = 64;
 
 // Whether a byte is white space: space, tab, LF or CR.
 pub fn is_whitespace(b: u8) -> bool
@@ -37,14 +40,15 @@ pub fn trim_start(s: &[u8], from: usize, to: usize) -> usize
     from + leading_len(content)
 }
 
-// How many bytes of white space stand in front: counted by 64 while so many do, and then one by one.
+// How many bytes of white space stand in front.
 fn leading_len(s: &[u8]) -> usize
     ensures { λ r. ⌜ r ≡ leading (now (s .entry)) ⌝ }
 {
     let mut i = 0;
-    if white_from(s, i, 1) {
-        while white_from(s, i, 64) {
-            i += 64;
+    // where the first byte is another, no block is looked at
+    if white_from(s, 0, 1) {
+        while white_from(s, i, BLOCK) {
+            i += BLOCK;
         }
         while white_from(s, i, 1) {
             i += 1;
@@ -53,7 +57,7 @@ fn leading_len(s: &[u8]) -> usize
     i
 }
 
-// Whether n bytes of white space stand at `at`.
+// Whether n bytes stand at `at`, all of them white space.
 fn white_from(s: &[u8], at: usize, n: usize) -> bool
     requires { ⌜ at ≤ length (now s) ⌝ }
     ensures { λ r. ⌜ r ≡ leb n (leading (drop at (now (s .entry)))) ⌝ }
@@ -61,11 +65,11 @@ fn white_from(s: &[u8], at: usize, n: usize) -> bool
     if s.len() - at < n {
         return false;
     }
-    let mut other = false;
+    let mut all = true;
     for k in 0..n {
-        other = other | !is_whitespace(s[at + k]);
+        all = all & is_whitespace(s[at + k]);
     }
-    !other
+    all
 }
 
 // Where the span `from` .. `to` ends once its trailing white space is cut: after its last byte that is not white space, or at `from` where
@@ -77,30 +81,30 @@ pub fn trim_end(s: &[u8], from: usize, to: usize) -> usize
     from + kept_len(content)
 }
 
-// How many bytes are left when trailing white space is cut: the search for the last byte that is not white space, back by 64 and then one by one.
+// How many bytes are left when trailing white space is cut: the search for the last byte that is not white space.
 fn kept_len(s: &[u8]) -> usize
     ensures { λ r. ⌜ r ≡ kept (now (s .entry)) ⌝ }
 {
-    let mut e = s.len();
-    if white_before(s, e, 1) {
-        while white_before(s, e, 64) {
-            e -= 64;
+    let mut end = s.len();
+    // where the last byte is another, no block is looked at
+    if white_before(s, end, 1) {
+        while white_before(s, end, BLOCK) {
+            end -= BLOCK;
         }
-        while white_before(s, e, 1) {
-            e -= 1;
+        while white_before(s, end, 1) {
+            end -= 1;
         }
     }
-    e
+    end
 }
 
-// Whether the first e bytes end with n bytes of white space.
-fn white_before(s: &[u8], e: usize, n: usize) -> bool
-    requires { ⌜ e ≤ length (now s) ⌝ }
-    ensures { λ r. ⌜ r ≡ leb (keptOf (now (s .entry)) e + n) e ⌝ }
+// Whether the first `end` bytes end with n bytes of white space: whether so many of them are cut.
+fn white_before(s: &[u8], end: usize, n: usize) -> bool
+    requires { ⌜ end ≤ length (now s) ⌝ }
+    ensures { λ r. ⌜ r ≡ leb n (end - keptOf (now (s .entry)) end) ⌝ }
 {
-    if e < n {
-        false
-    } else {
-        white_from(s, e - n, n)
+    if end < n {
+        return false;
     }
+    white_from(s, end - n, n)
 }

@@ -1,6 +1,6 @@
--- `kept_len` meets its contract. Both loops have one invariant. Assumes nothing.
+-- `kept_len` meets its contract. The invariant of both loops: the answer is that of cutting back from e. Assumes nothing.
 use borrow.Author.Needs.{needs}
-use Rattle.white.proofs.Runs.{Cut, cut-start, cut-some, cut-less, cut-turn, cut-here}
+use Rattle.white.proofs.Runs.{Cut, cut-start, cut-fits, cut-less, cut-turn, cut-here}
 use Rattle.white.proofs.kept_len.Statement.{statement}
 use Rattle.white.proofs.kept_len.Tie as tie
 
@@ -27,12 +27,12 @@ kept-len-spec =
     (λ c κs. search needs)
     (λ c. cut-start _)
     (λ c κs. search needs)
-    (λ c. cut-some _ _ _ _ (c .before .white-before2 .ensures) (c .if2 .taken))
+    (λ c. cut-fits _ _ _ _ (c .before .white-before2 .ensures) (c .if2 .taken))
     (λ c. search (needs, cut-less, c .before .white-before2 .ensures, c .if2 .taken))
     (λ c. cut-turn _ _ _ _ (c .before .white-before2 .ensures) (c .if2 .taken) (c .before .before .loop .inv))
     (λ c. c .before .before .loop .inv)
     (λ c κs. search needs)
-    (λ c. cut-some _ _ _ _ (c .before .white-before3 .ensures) (c .if3 .taken))
+    (λ c. cut-fits _ _ _ _ (c .before .white-before3 .ensures) (c .if3 .taken))
     (λ c. search (needs, cut-less, c .before .white-before3 .ensures, c .if3 .taken))
     (λ c. cut-turn _ _ _ _ (c .before .white-before3 .ensures) (c .if3 .taken) (c .before .before .loop2 .inv))
     (λ c. cut-here _ _ _ (c .before .white-before3 .ensures) (c .if3 .left) (c .before .before .loop2 .inv))

@@ -1,4 +1,4 @@
--- `leading_len` meets its contract. Both loops have one invariant. Assumes nothing.
+-- `leading_len` meets its contract. The invariant of both loops: the answer is i and the answer for what is left at i. Assumes nothing.
 use Prim.Native.Nat.{_-_}
 use lib.ListN.{length}
 use borrow.Author.Needs.{needs}

@@ -7,6 +7,6 @@ pub white-before-spec : {M : Type 1} → statement M
 white-before-spec =
     tie.close
     (tie.spec
-    (λ c κs. search ends-turns)
     (λ c. search ends-turns)
+    (λ c κs. search ends-turns)
     (λ c. search ends-turns))
