@@ -21,7 +21,7 @@ use Rattle.white.specs.White.{isWhite, notWhite, until, leading, keptOf,
 
 -- ---- a byte of white space
 
--- by all tests, and by one after the other
+-- the four tests joined, and chosen one after the other
 pub any-of-four : (a b c d : Bool) → (((a || b) || c) || d) ≡ pick a true (pick b true (pick c true (pick d true false)))
 any-of-four true b c d = refl
 any-of-four false true c d = refl
@@ -111,17 +111,17 @@ lead-start s = (omega arith, run-start notWhite s s refl)
 
 -- where x is what a call says of w bytes there
 module _ (s : List ℕ) (i w : ℕ) (x : Bool) (q : x ≡ leb w (until notWhite (drop i s))) (e : x ≡ true) where
-  many : w ≤ until notWhite (drop i s)
-  many = leb-true w _ (sym q ∙ e)
+  lead-many : w ≤ until notWhite (drop i s)
+  lead-many = leb-true w _ (sym q ∙ e)
 
   pub lead-fits : length s < 2 ^ 64 → Led s i → Fits w64 (i + w)
-  lead-fits h v = record { fits = omega (arith, v .0, many, until-inside notWhite s i) }
+  lead-fits h v = record { fits = omega (arith, v .0, lead-many, until-inside notWhite s i) }
 
   pub lead-less : 0 < w → length s - (i + w) < length s - i
-  lead-less h = omega (arith, many, until-inside notWhite s i)
+  lead-less h = omega (arith, lead-many, until-inside notWhite s i)
 
   pub lead-turn : Led s i → Led s (i + w)
-  lead-turn v = (omega (arith, v .0, many, until-inside notWhite s i), omega (arith, v .1, until-skip notWhite s i w many))
+  lead-turn v = (omega (arith, v .0, lead-many, until-inside notWhite s i), omega (arith, v .1, until-skip notWhite s i w lead-many))
 
 pub lead-here : (s : List ℕ) (i : ℕ) (x : Bool) → x ≡ leb 1 (until notWhite (drop i s)) → x ≡ false → Led s i → i ≡ leading s
 lead-here s i x q e v = omega (arith, v .1, leb-false 1 (until notWhite (drop i s)) (sym q ∙ e))
@@ -130,28 +130,28 @@ lead-here s i x q e v = omega (arith, v .1, leb-false 1 (until notWhite (drop i 
 
 module _ (s : List ℕ) (i : ℕ) where
   -- whether the first k are white space
-  abbrev pub white : ℕ → Bool
-  white k = leb k (until notWhite (drop i s))
+  abbrev pub all-white : ℕ → Bool
+  all-white k = leb k (until notWhite (drop i s))
 
-  pub flag-start : true ≡ white 0
+  pub flag-start : true ≡ all-white 0
   flag-start = sym (le-leb 0 (until notWhite (drop i s)) (omega arith))
 
-  module _ (w k : ℕ) (a : Bool) (v : a ≡ white k) where
+  module _ (w k : ℕ) (a : Bool) (v : a ≡ all-white k) where
     -- where x is what a call says of the next
-    pub flag-turn : w ≤ length s - i → k < w → (x : Bool) → x ≡ isWhite (getD s (i + k) 0) → (a && x) ≡ white (k + 1)
-    flag-turn r l x q = ap (λ (b : Bool). b && x) v ∙ by (white k) refl x q
+    pub flag-turn : w ≤ length s - i → k < w → (x : Bool) → x ≡ isWhite (getD s (i + k) 0) → (a && x) ≡ all-white (k + 1)
+    flag-turn r l x q = ap (λ (b : Bool). b && x) v ∙ by (all-white k) refl x q
       where
-        by : (b : Bool) → white k ≡ b → (y : Bool) → y ≡ isWhite (getD s (i + k) 0) → (b && y) ≡ white (k + 1)
+        by : (b : Bool) → all-white k ≡ b → (y : Bool) → y ≡ isWhite (getD s (i + k) 0) → (b && y) ≡ all-white (k + 1)
         by false g y p = sym (lt-leb (k + 1) _ (omega (arith, leb-false k _ g)))
         by true g true p =
             sym (le-leb (k + 1) _ (omega (arith, until-skip notWhite s i k (leb-true k _ g), until-next notWhite s (i + k) (omega arith) (ap not (sym p)))))
         by true g false p =
             sym (lt-leb (k + 1) _ (omega (arith, until-skip notWhite s i k (leb-true k _ g), until-here notWhite s (i + k) (omega arith) (ap not (sym p)))))
 
-    pub flag-end : w ≤ k → k ≤ w → a ≡ white w
-    flag-end h l = let e : k ≡ w = omega arith in v ∙ ap white e
+    pub flag-end : w ≤ k → k ≤ w → a ≡ all-white w
+    flag-end h l = let e : k ≡ w = omega arith in v ∙ ap all-white e
 
-  pub flag-short : (w : ℕ) → length s - i < w → false ≡ white w
+  pub flag-short : (w : ℕ) → length s - i < w → false ≡ all-white w
   flag-short w h = sym (lt-leb w _ (omega (arith, until-inside notWhite s i)))
 
 pub ruleset flag-turns = (needs, flag-start, flag-turn, flag-end, flag-short)
@@ -235,19 +235,19 @@ cut-start s = (omega arith, refl)
 
 -- where x is what a call says of the w bytes before it
 module _ (s : List ℕ) (e w : ℕ) (x : Bool) (q : x ≡ leb w (e - keptOf s e)) (f : x ≡ true) where
-  enough : w ≤ e - keptOf s e
-  enough = leb-true w _ (sym q ∙ f)
+  cut-many : w ≤ e - keptOf s e
+  cut-many = leb-true w _ (sym q ∙ f)
 
   pub cut-fits : w ≤ e
-  cut-fits = omega (arith, enough)
+  cut-fits = omega (arith, cut-many)
 
   pub cut-less : 0 < w → e - w < e
-  cut-less h = omega (arith, enough)
+  cut-less h = omega (arith, cut-many)
 
   pub cut-turn : Cut s e → Cut s (e - w)
   cut-turn v =
-      let g = kept-same s (e - w + w) e (omega (arith, enough)) in
-      let r = kept-skip s (e - w) w (omega (arith, g, enough, kept-within s e)) in
+      let g = kept-same s (e - w + w) e (omega (arith, cut-many)) in
+      let r = kept-skip s (e - w) w (omega (arith, g, cut-many, kept-within s e)) in
       (omega (arith, v .0), omega (arith, v .1, g, r))
 
 pub cut-here : (s : List ℕ) (e : ℕ) (x : Bool) → x ≡ leb 1 (e - keptOf s e) → x ≡ false → Cut s e → e ≡ kept s

@@ -45,7 +45,7 @@ fn leading_len(s: &[u8]) -> usize
     ensures { λ r. ⌜ r ≡ leading (now (s .entry)) ⌝ }
 {
     let mut i = 0;
-    // where the first byte is another, no block is looked at
+    // where the first byte is not white space, no block is looked at
     if white_from(s, 0, 1) {
         while white_from(s, i, BLOCK) {
             i += BLOCK;
@@ -86,7 +86,7 @@ fn kept_len(s: &[u8]) -> usize
     ensures { λ r. ⌜ r ≡ kept (now (s .entry)) ⌝ }
 {
     let mut end = s.len();
-    // where the last byte is another, no block is looked at
+    // where the last byte is not white space, no block is looked at
     if white_before(s, end, 1) {
         while white_before(s, end, BLOCK) {
             end -= BLOCK;

@@ -2,12 +2,12 @@
 use Prim.Native.Nat.{_-_, _≤_}
 use mathlib.Core.Path.{_≡_}
 use lib.ListN.{length}
-use Rattle.white.proofs.Runs.{white, flag-turns}
+use Rattle.white.proofs.Runs.{all-white, flag-turns}
 use Rattle.white.proofs.white_from.Statement.{statement}
 use Rattle.white.proofs.white_from.Tie as tie
 
 abbrev Inv-loop : tie.InvT-loop
-Inv-loop s at n a₀ k₀ a k = (k ≤ n) × (n ≤ length s - at) × (a ≡ white s at k)
+Inv-loop s at n a₀ k₀ a k = (k ≤ n) × (n ≤ length s - at) × (a ≡ all-white s at k)
 
 abbrev μ-loop : tie.MeasureT-loop
 μ-loop s at n a₀ k₀ a k = n - k
