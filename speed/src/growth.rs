@@ -34,7 +34,7 @@ pub fn run(runners: &mut Runners) -> Result<(), String> {
 
 fn by_length(runners: &mut Runners, above: &mut Vec<String>) -> Result<(), String> {
     let mut lines = Vec::new();
-    for input in &inputs::ALL[..inputs::REQUESTED] {
+    for input in &inputs::TABLE[..inputs::REQUESTED] {
         let rows = LENGTHS.map(|length| row(input, length));
         let (_, samples) = measured(&rows, runners, |row| row.document.len() as f64)?;
         let mut line = vec![input.name.to_string()];

@@ -44,25 +44,25 @@ fn build(argument: &str) -> Option<Build> {
 }
 
 fn wish() -> Option<Wish> {
-    let (mut trim, mut rounds, mut growth, mut beside, mut also) = (false, ROUNDS, false, None, Vec::new());
+    let (mut trim, mut rounds, mut growth, mut beside, mut also) = (false, None, false, None, Vec::new());
     let mut arguments = env::args().skip(1);
     while let Some(argument) = arguments.next() {
         match argument.as_str() {
-            "--quick" => rounds = QUICK,
-            "--rounds" => rounds = arguments.next()?.parse().ok().filter(|&rounds| rounds > 0)?,
+            "--quick" => rounds = Some(QUICK),
+            "--rounds" => rounds = Some(arguments.next()?.parse().ok().filter(|&rounds| rounds > 0)?),
             "--growth" => growth = true,
             "--trim" => trim = true,
-            "--beside" => beside = Some(build(&arguments.next()?)?),
+            "--beside" if beside.is_none() => beside = Some(build(&arguments.next()?)?),
             "--also" => also.push(build(&arguments.next()?)?),
             "--describe" => return Some(Wish::Describe),
             "--write" => return Some(Wish::Write(arguments.next()?.into())),
             _ => return None,
         }
     }
-    match growth {
-        false => Some(Wish::Table { trim, rounds, beside, also }),
-        true => (!trim && beside.is_none()).then_some(Wish::Growth { also }),
+    if growth {
+        return (!trim && rounds.is_none() && beside.is_none()).then_some(Wish::Growth { also });
     }
+    Some(Wish::Table { trim, rounds: rounds.unwrap_or(ROUNDS), beside, also })
 }
 
 fn main() -> ExitCode {
@@ -90,7 +90,10 @@ fn main() -> ExitCode {
 
 /// The one that all others are held to, where it is not the crate; the crate, and our functions in each build.
 fn builds(beside: Option<Build>, also: Vec<Build>) -> Result<Vec<Box<dyn Runner>>, String> {
-    let mut runners = beside.map(shared).into_iter().collect::<Result<Vec<_>, _>>()?;
+    let mut runners: Vec<Box<dyn Runner>> = Vec::new();
+    if let Some(build) = beside {
+        runners.push(shared(build)?);
+    }
     runners.push(Box::new(QuickXml));
     runners.push(Box::new(Archive::new("ours".into(), Linked)));
     for build in also {
@@ -106,13 +109,15 @@ fn shared(build: Build) -> Result<Box<dyn Runner>, String> {
 fn table(trim: bool, rounds: usize, beside: Option<Build>, also: Vec<Build>) -> Result<(), String> {
     let mut runners = builds(beside, also)?;
     runners.push(Box::new(Package));
+    machine::print();
+    if trim {
+        return table::run(&table::trimmed(), &mut runners, rounds);
+    }
     #[cfg(feature = "expat")]
     runners.push(Box::new(runners::expat::Expat));
     #[cfg(feature = "libxml2")]
     runners.push(Box::new(runners::libxml2::LibXml2));
-    machine::print();
-    let rows = if trim { table::trimmed() } else { table::rows() };
-    table::run(&rows, &mut runners, rounds)
+    table::run(&table::rows(), &mut runners, rounds)
 }
 
 fn growth(also: Vec<Build>) -> Result<(), String> {
@@ -124,7 +129,7 @@ fn growth(also: Vec<Build>) -> Result<(), String> {
 /// Writes the inputs, each to a file of its name.
 fn write(folder: &Path) -> Result<(), String> {
     fs::create_dir_all(folder).map_err(|error| format!("{}: {error}", folder.display()))?;
-    inputs::ALL.iter().chain(&inputs::WHITE).try_for_each(|input| {
+    inputs::TABLE.iter().chain(&inputs::WHITE).try_for_each(|input| {
         let path = folder.join(input.name).with_extension("xml");
         fs::write(&path, (input.make)(table::LENGTH)).map_err(|error| format!("{}: {error}", path.display()))
     })

@@ -1,4 +1,4 @@
-//! The table: every column beside the crate, on every input.
+//! The table: every column beside the first one, on the inputs asked for.
 
 use crate::check::told;
 use crate::clock::{least, ratio, rounds, Row, Samples};
@@ -10,8 +10,8 @@ pub const LENGTH: usize = 65_536;
 
 /// The inputs under the default settings, and the indented one trimmed.
 pub fn rows() -> Vec<Row> {
-    let default = inputs::ALL.iter().map(|input| (input, Settings::default(), ""));
-    let trimmed = inputs::ALL.iter().filter(|input| input.name == "netex");
+    let default = inputs::TABLE.iter().map(|input| (input, Settings::default(), ""));
+    let trimmed = inputs::TABLE.iter().filter(|input| input.name == "netex");
     let trimmed = trimmed.map(|input| (input, Settings { trim_text: true, ..Settings::default() }, ", trimmed"));
     default
         .chain(trimmed)
@@ -38,7 +38,7 @@ pub fn run(rows: &[Row], runners: &mut [Box<dyn Runner>], count: usize) -> Resul
     grid::print(&head, &lines);
     println!();
     println!(
-        "The columns behind it are ratios to the time of {}: least time over least time / the median of the rounds' ratios.",
+        "The columns of two numbers are ratios to the time of {}: least time over least time / the median of the rounds' ratios.",
         runners[0].name()
     );
     Ok(())
@@ -54,13 +54,13 @@ fn line(row: &Row, tally: Tally, samples: &[Samples]) -> Vec<String> {
         format!("{:.1}", time / tally.answers as f64),
         format!("{:.3}", time / row.document.len() as f64),
     ];
-    cells.extend(samples[1..].iter().map(|ours| ratios(&samples[0], ours)));
+    cells.extend(samples[1..].iter().map(|other| ratios(&samples[0], other)));
     cells
 }
 
-fn ratios(theirs: &[f64], ours: &[f64]) -> String {
-    if ours.is_empty() {
+fn ratios(first: &[f64], other: &[f64]) -> String {
+    if other.is_empty() {
         return "-".into();
     }
-    format!("{:.2} / {:.2}", least(ours) / least(theirs), ratio(ours, theirs))
+    format!("{:.2} / {:.2}", least(other) / least(first), ratio(other, first))
 }

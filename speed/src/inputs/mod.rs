@@ -19,17 +19,17 @@ pub struct Input {
     pub make: fn(usize) -> Vec<u8>,
 }
 
-/// The three of the request come first.
-pub const ALL: [Input; 7] = [timetable::INPUT, longtext::INPUT, comments::INPUT, netex::INPUT, utf8::INPUT, deep::INPUT, cdata::INPUT];
+/// Those of the table. The three of the request come first.
+pub const TABLE: [Input; 7] = [timetable::INPUT, longtext::INPUT, comments::INPUT, netex::INPUT, utf8::INPUT, deep::INPUT, cdata::INPUT];
 pub const REQUESTED: usize = 3;
 
 /// Those of `--trim`, which are read with text trimmed.
-pub const WHITE: [Input; 7] = white::INPUTS;
+pub const WHITE: [Input; 8] = white::INPUTS;
 
 /// What holds for every input.
 pub const RULES: &str = "\
 Each input is one element with whole elements or pieces in it, as many as fit into the length asked for: 65,536 bytes, but for growth. The document \
-ends where the next would not fit, so it has the length asked for or a little less.
+ends where the next would not fit, so it has the length asked for, or less by less than that one.
 \"Drawn\" is by one generator: x begins at 1, and for a number below n it becomes x * 6364136223846793005 + 1442695040888963407 modulo 2^64, \
 and the number is (x >> 33) modulo n. One of a list is the one at that number, counted from 0; a number from a to b is a and a number below b - a + 1.
 Prose of n bytes is words drawn, each but the first behind a space, until there are n bytes or more; before each word but the first a number \
@@ -58,7 +58,7 @@ fn time(minutes: usize) -> String {
 /// The rules, and below them each input's name, description and words.
 pub fn describe() {
     println!("{RULES}");
-    for input in ALL.iter().chain(&WHITE) {
+    for input in TABLE.iter().chain(&WHITE) {
         println!("{}: {}\n", input.name, input.description);
     }
     println!("The stops: {}.\n", words::STOPS.join(", "));
