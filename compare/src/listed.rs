@@ -5,6 +5,9 @@ use crate::ours::*;
 use crate::theirs::{Seen, Theirs};
 use quick_xml::utils::is_whitespace;
 
+/// The bytes of `<!--`.
+const OPENER: usize = 4;
+
 /// A call in which the two sides differ.
 pub struct Told<'a> {
     pub case: &'a Case<'a>,
@@ -22,13 +25,14 @@ struct Row {
     holds: fn(&Told) -> bool,
 }
 
-const ROWS: [Row; 2] = [
+const ROWS: [Row; 3] = [
     Row { tag: "dangling-trim", fields: 1 << CONTENT_TO, due: is_dangling, holds: dangling_trim },
+    Row { tag: "hyphen-place", fields: 1 << PLACE, due: is_behind_a_hyphen, holds: hyphen_place },
     Row { tag: "encoding-place", fields: 1 << PLACE, due: is_ill_formed, holds: encoding_place },
 ];
 
 pub const COUNT: usize = ROWS.len();
-pub const TAGS: [&str; COUNT] = [ROWS[0].tag, ROWS[1].tag];
+pub const TAGS: [&str; COUNT] = [ROWS[0].tag, ROWS[1].tag, ROWS[2].tag];
 
 /// The row of a call in which the sides differ in these fields, none where they are alike and have to be; an error if they should not differ so.
 pub fn which(fields: u32, told: &Told) -> Result<Option<usize>, ()> {
@@ -52,6 +56,19 @@ fn is_dangling(told: &Told) -> bool {
         && piece(told).last().is_some_and(|&b| is_whitespace(b))
 }
 
+/// A comment that is refused for two hyphens, with a lone one before them.
+fn is_behind_a_hyphen(told: &Told) -> bool {
+    told.answer[NUMBER] == DOUBLE_HYPHEN && lone_and_pair(piece(told)).is_some()
+}
+
+/// In a comment with a lone hyphen before the first two in a row: where the last lone one and the two stand, counted from its start.
+fn lone_and_pair(comment: &[u8]) -> Option<(usize, usize)> {
+    let content = comment.get(OPENER..)?;
+    let pair = content.windows(2).position(|bytes| bytes == b"--")?;
+    let lone = content[..pair].iter().rposition(|&b| b == b'-')?;
+    Some((OPENER + lone, OPENER + pair))
+}
+
 /// Ill-formed UTF-8 in text or in a reference that does not start where the refusal before has its place.
 fn is_ill_formed(told: &Told) -> bool {
     told.answer[NUMBER] == ENCODING
@@ -66,6 +83,13 @@ fn dangling_trim(told: &Told) -> bool {
     told.case.settings & DANGLING != 0
         && told.answer[CONTENT_TO] == told.answer[PIECE_TO]
         && told.seen.content == Some((from, from + kept))
+}
+
+/// Our place is the first of the two, the crate's as far behind the opener as they are behind the lone one.
+fn hyphen_place(told: &Told) -> bool {
+    let Some((lone, pair)) = lone_and_pair(piece(told)) else { return false };
+    let from = told.answer[PIECE_FROM];
+    told.answer[PLACE] == from + pair && told.theirs.place() + told.theirs.mark == from + OPENER + (pair - lone - 1)
 }
 
 /// Our place is the piece's start, the crate's still that of the refusal before, or 0.

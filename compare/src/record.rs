@@ -18,8 +18,9 @@ const LONGEST_LINE: usize = 170;
 /// Of a case at the borders of blocks.
 const LONGEST_BORDER: usize = 260;
 const LARGEST: usize = 250 << 10;
-const CASES: usize = 5_000;
-const OF_EACH_DIFFERENCE: usize = 150;
+const CASES: usize = 4_900;
+/// Of each difference, and of each set of them that comes up in one case.
+const OF_EACH_DIFFERENCE: usize = 100;
 /// One case in so many of those that are compared is looked at.
 const OF: usize = 6;
 
@@ -120,7 +121,8 @@ struct Recorder {
     seen: HashSet<u64>,
     lines: HashSet<String>,
     cases: Vec<Kept>,
-    differences: [Vec<Kept>; listed::COUNT],
+    /// By the rows of the differences that come up in a case.
+    differences: BTreeMap<Vec<usize>, Vec<Kept>>,
     tally: Tally,
     flags: [usize; 8],
     full: usize,
@@ -140,24 +142,29 @@ impl Recorder {
             return;
         }
         let tags: Vec<usize> = (0..listed::COUNT).filter(|&row| tally.listed[row] > 0).collect();
-        if tally.left != [0; 3] || tags.len() > 1 {
+        if tally.left != [0; 3] {
             return;
         }
         let steps = steps(case);
         let mut shown = features(case, &steps);
-        shown.extend(tags.iter().map(|tag| hashed(("tag", tag, steps.len(), case.document.len()))));
+        if !tags.is_empty() {
+            shown.push(hashed(("tags", &tags, steps.len(), case.document.len())));
+        }
         let effects = effects(case, &steps);
         shown.extend(effects.iter().map(|effect| effect.1));
         let fresh = shown.iter().filter(|feature| !self.seen.contains(feature)).count();
         if fresh == 0 && !self.any || !self.lines.insert(trace::case_line(case)) {
             return;
         }
-        let into = match tags.first() {
-            Some(&tag) if self.differences[tag].len() == OF_EACH_DIFFERENCE || unplaced(case, tag, &steps) => return,
-            Some(&tag) => &mut self.differences[tag],
-            None => &mut self.cases,
-        };
-        into.push(Kept::of(case));
+        if tags.is_empty() {
+            self.cases.push(Kept::of(case));
+        } else {
+            let of_these = self.differences.entry(tags.clone()).or_default();
+            if of_these.len() == OF_EACH_DIFFERENCE || unplaced(case, &tags, &steps) {
+                return;
+            }
+            of_these.push(Kept::of(case));
+        }
         self.seen.extend(shown);
         self.tally.add(&tally);
         let turned = effects.iter().filter(|(flag, _)| (case.settings ^ DEFAULT) >> flag & 1 == 1);
@@ -167,9 +174,9 @@ impl Recorder {
 }
 
 /// Behind a byte order mark, with no refusal before, the place that the crate gives is no position: such a case is not recorded.
-fn unplaced(case: &Case, tag: usize, steps: &[Step]) -> bool {
+fn unplaced(case: &Case, tags: &[usize], steps: &[Step]) -> bool {
     let refusals = steps.iter().filter(|step| step.class > 100).count();
-    listed::TAGS[tag] == "encoding-place" && case.document.starts_with(b"\xEF\xBB\xBF") && refusals < 2
+    tags.iter().any(|&tag| listed::TAGS[tag] == "encoding-place") && case.document.starts_with(b"\xEF\xBB\xBF") && refusals < 2
 }
 
 impl Sink for Recorder {
@@ -230,6 +237,18 @@ fn borders(recorder: &mut Recorder) {
             look(&[b"<", &name, b"></", &other, b">"]);
         }
     }
+    // white space as long as a block, at the end of text, of a closing tag's name and in front of text, whole and with another byte in it
+    let trimmed = DEFAULT | TRIM_START | TRIM_END;
+    for length in [63, 64, 65] {
+        for at in [1, length - 2, length] {
+            let mut run = [b' '; 66];
+            run[at] = b'x';
+            let run = &run[..length];
+            for parts in [[b"<a>t", run, b"<"], [b"<a>", run, b"t<"], [b"<a></a", run, b">"]] {
+                recorder.look(&Case { document: &parts.concat(), settings: trimmed, slots: 16 });
+            }
+        }
+    }
     // no UTF-8 in a block that is neither the first of its text nor the last; and behind 256 bytes, for which a text that is not ASCII is checked by characters
     let (t, e) = ([b't'; 300], b"\xC3\xA9");
     let long: [&[&[u8]]; 5] = [
@@ -253,7 +272,7 @@ fn pick(seed: u64) -> Recorder {
         seen: HashSet::new(),
         lines: HashSet::new(),
         cases: Vec::new(),
-        differences: Default::default(),
+        differences: BTreeMap::new(),
         tally: Tally::default(),
         flags: [0; 8],
         full: 0,
@@ -287,12 +306,17 @@ fn pick(seed: u64) -> Recorder {
     recorder
 }
 
+/// The differences of a case by their tags.
+fn words(tags: &[usize]) -> String {
+    tags.iter().map(|&tag| listed::TAGS[tag]).collect::<Vec<_>>().join("+")
+}
+
 /// Prints what the cases cover: what they lack.
 fn covered(recorder: &Recorder, size: usize) -> Vec<String> {
     let tally = &recorder.tally;
     println!("record: {} cases, {} of them picked, {size} bytes", recorder.cases.len(), recorder.picked);
-    for (tag, cases) in listed::TAGS.iter().zip(&recorder.differences) {
-        println!("record: {} cases of {tag}", cases.len());
+    for (tags, cases) in &recorder.differences {
+        println!("record: {} cases of {}", cases.len(), words(tags));
     }
     let counts =
         |words: &mut dyn Iterator<Item = (String, u64)>| -> String { words.map(|(word, count)| format!(" {word} {count}")).collect() };
@@ -303,6 +327,8 @@ fn covered(recorder: &Recorder, size: usize) -> Vec<String> {
     println!("record: cases in which a flag is turned over and matters:{}", counts(flags));
     println!("record: cases with a full stack: {}", recorder.full);
     let mut lacking = tally.missing();
+    let alone = |tag: usize| recorder.differences.contains_key(&[tag][..]);
+    lacking.extend((0..listed::COUNT).filter(|&tag| !alone(tag)).map(|tag| format!("a case of {} alone", listed::TAGS[tag])));
     lacking.extend((0..8).filter(|&flag| recorder.flags[flag] == 0).map(|flag| format!("flag {}", LETTERS[flag])));
     if recorder.full == 0 {
         lacking.push("a full stack".into());
@@ -331,9 +357,9 @@ pub fn record(folder: &Path, seed: u64) -> std::io::Result<bool> {
     };
     cases.iter().for_each(|((_, line), kept)| put(line, &kept.case()));
     let mut below = String::new();
-    for (tag, kept) in listed::TAGS.iter().zip(&recorder.differences) {
+    for (tags, kept) in &recorder.differences {
         for kept in kept {
-            let line = format!("difference {tag} {}", trace::case_line(&kept.case()));
+            let line = format!("difference {} {}", words(tags), trace::case_line(&kept.case()));
             let _ = writeln!(below, "{line}");
             let _ = writeln!(stdout, "{line}");
             lines_of(&kept.case(), &mut stdout);

@@ -234,11 +234,30 @@ const POSITIONS: &[Fault] = &[
 const PLACES: &[Fault] = &[
     act("place of 9 is the second hyphen", |c| c.number() == DOUBLE_HYPHEN, |c| c.answer[PLACE] += 1),
     act(
-        "place of 9 is the pair",
+        "place of 9 counts from the last lone hyphen",
         |c| c.number() == DOUBLE_HYPHEN,
         |c| {
-            let pair = c.piece()[4..].windows(2).position(|w| w == b"--").unwrap_or_default();
-            c.answer[PLACE] = c.answer[PIECE_FROM] + 4 + pair;
+            let content = c.answer[PIECE_FROM] + 4;
+            let before = &c.document[content..c.answer[PLACE]];
+            c.answer[PLACE] = content + before.rsplit(|&b| b == b'-').next().map_or(0, <[u8]>::len);
+        },
+    ),
+    act(
+        "place of 9 is the last pair",
+        |c| c.number() == DOUBLE_HYPHEN,
+        |c| {
+            let content = &c.piece()[4..c.piece().len() - 2];
+            let last = content.windows(2).rposition(|w| w == b"--").unwrap_or_default();
+            c.answer[PLACE] = c.answer[PIECE_FROM] + 4 + last;
+        },
+    ),
+    act("place of 9 is counted in the comment", |c| c.number() == DOUBLE_HYPHEN, |c| c.answer[PLACE] -= c.answer[PIECE_FROM]),
+    act(
+        "place of 9 is counted in characters",
+        |c| c.number() == DOUBLE_HYPHEN,
+        |c| {
+            let before = &c.document[c.answer[PIECE_FROM]..c.answer[PLACE]];
+            c.answer[PLACE] -= before.iter().filter(|&&b| matches!(b, 0x80..0xC0)).count();
         },
     ),
     act("place of 9 is the piece's start", |c| c.number() == DOUBLE_HYPHEN, |c| c.answer[PLACE] = c.answer[PIECE_FROM]),

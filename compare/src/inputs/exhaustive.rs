@@ -67,6 +67,8 @@ fn markup() -> Vec<Alphabet> {
         bytes("two names", b"<a><A><ab></", b"abA></", (5, 7), &[NAMES, EXPAND]),
         bytes("comments", b"<!--", b"->a<!", (7, 9), &[COMMENTS]),
         bytes("comments behind text", b"t<!--a", b"->a&", (6, 9), &[COMMENTS, TRIM_START, TRIM_END]),
+        bytes("hyphens in comments", b"<!--", b"->a\xC3\xA9", (6, 9), &[COMMENTS]),
+        bytes("comments behind a byte order mark", b"\xEF\xBB\xBF<!--", b"->a", (7, 11), &[COMMENTS]),
         bytes("comment openers", b"<!-", b"->a ", (6, 8), &[COMMENTS]),
         bytes("character data", b"<![CDATA[", b"]>[a<", (6, 9), &[TRIM_END]),
         bytes("character data openers", b"<!", b"[]>CDAT-d", (5, 6), &[COMMENTS]),
@@ -81,6 +83,7 @@ fn text() -> Vec<Alphabet> {
         bytes("white space", b"", b" \t\n\r\x0B\x0Ca<&", (4, 6), &[DANGLING, TRIM_START, TRIM_END, TRIM_NAMES]),
         bytes("byte order marks", b"", b"\xEF\xBB\xBFa<> ", (5, 7), &[TRIM_START, TRIM_END]),
         bytes("behind a byte order mark", b"\xEF\xBB\xBF", b"<>/!-?&;a \xEF\xFF", (4, 5), &[DANGLING, TRIM_START, TRIM_END, EXPAND]),
+        bytes("ill formed behind two hyphens", b"<!--a-b--", b"->a&;\xFF\xC3", (5, 7), &[COMMENTS, DANGLING]),
         bytes("ill formed behind a refusal", b"</>", b"</>a\xFF&;\xC3", (5, 6), &[DANGLING, TRIM_START]),
     ]
 }

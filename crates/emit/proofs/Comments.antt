@@ -1,4 +1,4 @@
--- When a comment is refused for its hyphens, in the words of document 01. Assumes nothing.
+-- When a comment is refused for its hyphens, and where, in the words of documents 01 and 02. Assumes nothing.
 use Prim.Native.Nat.{ℕ, _-_}
 use mathlib.Core.Path.{_≡_, refl}
 use mathlib.Core.List.{List}
@@ -19,7 +19,8 @@ use Rattle.state.specs.declared.run.Step.{Step}
 use Rattle.state.specs.Place.{inner}
 use Rattle.state.specs.Make.{told, refused, stopped}
 use Rattle.state.specs.Values.{valuesOf}
-use Rattle.emit.specs.Bang.{commentOpener, bangEvent, checkedComment, emitComment, TwoHyphens}
+use Rattle.emit.specs.Bang.{commentOpener, bangEvent, checkedComment, emitComment, TwoHyphens, FirstOfTwo}
+use Rattle.emit.proofs.Hyphens.{pair-first}
 
 -- the number of a refusal, 0 for an event
 abbrev numberOf : Step → ℕ
@@ -39,6 +40,20 @@ module _ (doc : List ℕ) (r : Reader) (piece content : Span) where
       (λ t. (λ _. (p - 1, pair-within doc (content .from) (content .to) p e (ltb-false (content .to) p t)), λ _. refl)))
       (λ e. (λ n. absurd (omega arith), λ h. absurd (pair-nowhere doc (content .from) (content .to) e (h .0) (h .1))))
 
+  abbrev Stands : Step → Type 0
+  Stands s = numberOf s ≡ 9 → FirstOfTwo doc content (valuesOf (s .answer) .place)
+
+  -- THEOREM: "refusal 9 has as its place the first hyphen of the first pair"
+  pub nine-at-the-first-of-two-hyphens : valuesOf (checkedComment doc r piece content .answer) .number ≡ 9
+      → FirstOfTwo doc content (valuesOf (checkedComment doc r piece content .answer) .place)
+  unfolding checkedComment bangEvent told refused
+  nine-at-the-first-of-two-hyphens =
+      first-cases Stands (pairFound doc (content .from)) _ _
+      (λ p e. pick-cases Stands (ltb (content .to) p) _ _
+      (λ t n. absurd (omega arith))
+      (λ t n. pair-first doc (content .from) (content .to) p e (ltb-false (content .to) p t)))
+      (λ e n. absurd (omega arith))
+
 module _ (doc : List ℕ) (r : Reader) (piece : Span) where
   abbrev Wanted : Step → Type 0
   Wanted s = (numberOf s ≡ 9) ↔ ((begins (drop (piece .from) doc) commentOpener ≡ true) × (r .settings .«check_comments» ≡ true) × TwoHyphens doc (inner piece 4 3))
@@ -54,3 +69,17 @@ module _ (doc : List ℕ) (r : Reader) (piece : Span) where
       (λ n. (opens, checks, nine .0 n), λ h. nine .1 (h .2)))
       (λ off. (λ n. absurd (omega arith), λ h. clash _ (h .1) off)))
       (λ other. (λ n. absurd (omega arith), λ h. clash _ (h .0) other))
+
+  abbrev Placed : Step → Type 0
+  Placed s = numberOf s ≡ 9 → FirstOfTwo doc (inner piece 4 3) (valuesOf (s .answer) .place)
+
+  -- THEOREM: the same of a piece
+  pub a-comment-is-refused-at-the-first-of-two-hyphens : valuesOf (emitComment doc r piece .answer) .number ≡ 9
+      → FirstOfTwo doc (inner piece 4 3) (valuesOf (emitComment doc r piece .answer) .place)
+  unfolding emitComment bangEvent told stopped refused
+  a-comment-is-refused-at-the-first-of-two-hyphens =
+      pick-cases Placed (begins (drop (piece .from) doc) commentOpener) _ _
+      (λ opens. pick-cases Placed (r .settings .«check_comments») _ _
+      (λ checks. nine-at-the-first-of-two-hyphens doc r piece (inner piece 4 3))
+      (λ off n. absurd (omega arith)))
+      (λ other n. absurd (omega arith))

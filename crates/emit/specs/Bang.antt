@@ -1,15 +1,14 @@
 -- Comments and CDATA (document 01, "Steps").
-use Prim.Native.Nat.{ℕ, _+_, _-_}
+use Prim.Native.Nat.{ℕ, _-_}
 use mathlib.Core.List.{List, [], _∷_}
 use lib.ListN.{drop}
-use lib.Dec.{eqb, ltb}
+use lib.Dec.{ltb}
 use Rattle.ground.specs.Choose.{pick}
 use Rattle.ground.specs.Bytes.{bang, hyphen, lt, openBracket}
-use Rattle.ground.specs.Part.{part}
 use Rattle.ground.specs.Equal.{begins}
+use Rattle.ground.specs.Least.{Least}
 use Rattle.parser.specs.First.{byFirst}
 use Rattle.parser.specs.Hyphens.{pairFound, HyphensAt}
-use Rattle.state.specs.declared.place.Position.{Position}
 use Rattle.state.specs.declared.place.Span.{Span}
 use Rattle.state.specs.declared.answer.Kind.{Kind}
 use Rattle.state.specs.declared.answer.Error.{Error}
@@ -31,24 +30,14 @@ cdataOpener = lt ∷ bang ∷ openBracket ∷ 0x43 ∷ 0x44 ∷ 0x41 ∷ 0x54 �
 unfoldable pub bangEvent : Reader → Kind → Span → Span → Step
 bangEvent r kind piece content = told r (event kind piece content 0) Phase.InsideText
 
--- how many bytes stand after the last hyphen, with n bytes before them that are none
-unfoldable pub since : ℕ → List ℕ → ℕ
-since n [] = n
-since n (b ∷ bs) = pick (eqb b hyphen) (since 0 bs) (since (n + 1) bs)
-
--- "the place is piece start + 4 + the bytes between the previous lone hyphen (or the opener) and the pair", for a content that starts at `from` and a
--- pair at `pair`
-unfoldable pub hyphenPlace : List ℕ → ℕ → ℕ → Position
-hyphenPlace doc from pair = at (from + since 0 (part doc from pair))
-
 -- "With `check_comments`, a comment is refused (9) if a content `-` is followed by `-` (the closer's included)": the first two hyphens in a row end at the
--- content's end at the latest, where the closer begins
+-- content's end at the latest, where the closer begins. "refusal 9 has as its place the first hyphen of the first pair" (document 02), the one before `second`
 unfoldable pub checkedComment : List ℕ → Reader → Span → Span → Step
 checkedComment doc r piece content =
     byFirst (pairFound doc (content .from))
     (λ second. pick (ltb (content .to) second)
     (bangEvent r Kind.Comment piece content)
-    (refused r Error.DoubleHyphenInComment (hyphenPlace doc (content .from) (second - 1)) piece Phase.InsideText))
+    (refused r Error.DoubleHyphenInComment (at (second - 1)) piece Phase.InsideText))
     (bangEvent r Kind.Comment piece content)
 
 -- "Closed but not opening `<!--` or `<![CDATA[`: 4 or 5. Content lies between opener and closer."
@@ -71,3 +60,7 @@ emitCData doc r piece =
 -- "a content `-` is followed by `-` (the closer's included)"
 abbrev pub TwoHyphens : List ℕ → Span → Type 0
 TwoHyphens doc content = (k : ℕ) × HyphensAt doc (content .from) (content .to) k
+
+-- "the first hyphen of the first pair": the least place, from the content's start on, with hyphens there and right after it
+abbrev pub FirstOfTwo : List ℕ → Span → ℕ → Type 0
+FirstOfTwo doc content = Least (HyphensAt doc (content .from) (content .to))

@@ -1,5 +1,4 @@
 // Comments and CDATA.
-use ground::part;
 use ground::starts_with;
 use parser::first::Found;
 use parser::hyphens::pair_end;
@@ -12,9 +11,7 @@ use state::run::Phase;
 use state::run::Reader;
 use state::run::Step;
 ghost use mathlib.Core.Path.{_≡_};
-ghost use Prim.Native.Nat.{_+_, _-_, _<_, _≤_};
-ghost use lib.ListN.{length};
-ghost use Rattle.emit.specs.Bang.{since, bangEvent, checkedComment, hyphenPlace, emitComment, emitCData};
+ghost use Rattle.emit.specs.Bang.{bangEvent, checkedComment, emitComment, emitCData};
 
 // A closed piece whose third byte is a hyphen.
 pub fn emit_comment(reader: Reader, document: &[u8], piece: Span) -> Step
@@ -59,7 +56,7 @@ fn bang_event(reader: Reader, kind: Kind, piece: Span, content: Span) -> Step
     )
 }
 
-// A comment that may not have `--` in it, nor a hyphen before its closer.
+// A comment that may not have `--` in it, nor a hyphen before its closer; it is refused at the first hyphen of the first pair.
 fn checked_comment(reader: Reader, document: &[u8], piece: Span, content: Span) -> Step
     ensures { λ r. ⌜ r ≡ checkedComment (now (document .entry)) reader piece content ⌝ }
 {
@@ -69,35 +66,12 @@ fn checked_comment(reader: Reader, document: &[u8], piece: Span, content: Span) 
     if content.to < second {
         bang_event(reader, Kind::Comment, piece, content)
     } else {
-        let place = hyphen_place(document, content.from, second - 1);
+        let first = Position(second - 1);
         reader.refuse(
             Error::DoubleHyphenInComment,
-            place,
+            first,
             piece,
             Phase::InsideText,
         )
     }
-}
-
-// The place told for a pair of hyphens that starts at `pair`, in a content that starts at `from`.
-fn hyphen_place(document: &[u8], from: usize, pair: usize) -> Position
-    requires { ⌜ (from ≤ pair) × (pair ≤ length (now document)) ⌝ }
-    ensures { λ r. ⌜ r ≡ hyphenPlace (now (document .entry)) from pair ⌝ }
-{
-    let before = since_hyphen(part(document, from, pair));
-    Position(from + before)
-}
-
-// How many bytes stand after the last hyphen; all, where there is none.
-fn since_hyphen(s: &[u8]) -> usize
-    ensures { λ r. ⌜ r ≡ since 0 (now (s .entry)) ⌝ }
-{
-    let mut n = 0;
-    let mut i = 0;
-    while i < s.len() {
-        let b = s[i];
-        i += 1;
-        n = if b == b'-' { 0 } else { n + 1 };
-    }
-    n
 }

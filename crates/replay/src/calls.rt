@@ -1,4 +1,6 @@
 // The calls of a case.
+use crate::place::first_place;
+use crate::place::next_place;
 use crate::says::say_crate;
 use crate::says::say_values;
 use lines::line::bytes;
@@ -27,7 +29,8 @@ pub fn case(text: &[u8], from: usize) {
     }
 }
 
-// Calls until end of file, which comes after as many calls as the document has bytes and two more, or before. `place` is that of the latest refusal.
+// Calls until end of file, which comes after as many calls as the document has bytes and two more, or before. `place` is what the crate tells for its latest
+// refusal.
 fn run(fresh: Reader, document: &[u8], stack: &mut [usize]) {
     let eof = Kind::Eof;
     let last = eof.number();
@@ -40,25 +43,11 @@ fn run(fresh: Reader, document: &[u8], stack: &mut [usize]) {
         reader = step.reader;
         let answer = step.answer;
         let values = answer.values();
+        place = next_place(values, document, place);
         say_crate(values, reader, document, place);
         say_values(values, reader, document);
-        place = latest(values.kind, values.place, place);
         if values.kind == last {
             break;
         }
     }
-}
-
-// The crate's place before any refusal is 0, and its positions count from after a byte order mark.
-fn first_place(document: &[u8]) -> usize {
-    if ground::starts_with(document, 0, b"\xEF\xBB\xBF") {
-        3
-    } else {
-        0
-    }
-}
-
-// The place of the latest refusal: that of the answer, if it is one.
-fn latest(kind: usize, of_answer: usize, before: usize) -> usize {
-    if kind == 0 { of_answer } else { before }
 }

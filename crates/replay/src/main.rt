@@ -5,6 +5,7 @@
 // SETTINGS, SLOTS and BYTES are written as for `cases`. Where a call differs, a line that begins with `crate` stands above our own and has what the crate
 // says, worked out from our answer as that row states. A line that begins with `#` is passed over. The cases have fewer than 262,144 bytes.
 mod calls;
+mod place;
 mod says;
 
 use libc::STDIN_FILENO;

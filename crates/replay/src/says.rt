@@ -58,30 +58,25 @@ fn say_name(span: Span, document: &[u8]) {
     say_bytes(content(document, span));
 }
 
-// What the crate answers, where it answers something else: see docs/DIFFERENCES.md.
+// What the crate answers, where it answers something else: see docs/DIFFERENCES.md. `place` is what it tells for a refusal.
 pub fn say_crate(values: Values, reader: Reader, document: &[u8], place: usize) {
-    let piece = values.piece;
-    let first = ground::byte_at(document, piece.from);
-    if values.number == 13 {
-        stale_place(values, reader, document, first, place);
+    if values.kind == 0 {
+        if values.place != place {
+            say(b"  crate ");
+            say_refusal(values, place, reader, document);
+        }
         return;
     }
     let text = Kind::Text;
     if values.kind == text.number() {
-        trimmed_text(values, reader, document, first);
+        let piece = values.piece;
+        trimmed_text(
+            values,
+            reader,
+            document,
+            ground::byte_at(document, piece.from),
+        );
     }
-}
-
-// `encoding-place`: the place of ill-formed UTF-8 in text or a reference is that of the refusal before, or 0.
-fn stale_place(values: Values, reader: Reader, document: &[u8], first: u8, place: usize) {
-    if first == b'<' {
-        return;
-    }
-    if values.place == place {
-        return;
-    }
-    say(b"  crate ");
-    say_refusal(values, place, reader, document);
 }
 
 // `dangling-trim`: the text of a `&` without its `;` is trimmed as other text is.

@@ -15,7 +15,7 @@ returns-2 c = simp (lt-ltb _ _ (c .before .if1 .taken), c .before .before .befor
 
 returns-3 : tie.Need-returns-3
 unfolding checkedComment
-returns-3 c = simp (← c .before .hyphen-place .ensures, le-ltb _ _ (c .before .before .if1 .left), c .before .before .before .before .before .second .given .1, ← c .before .before .before .before .before .before .before .pair-end .ensures) (c .refuse .ensures)
+returns-3 c = simp (le-ltb _ _ (c .before .if1 .left), c .before .before .before .before .second .given .1, ← c .before .before .before .before .before .before .pair-end .ensures) (c .refuse .ensures)
 
 pub checked-comment-spec : {M : Type 1} → statement M
 checked-comment-spec =
@@ -28,7 +28,6 @@ checked-comment-spec =
     returns
     (λ c κs. search pairs)
     (λ c. search pairs)
-    (λ c κs. search pairs)
     (λ c κs. search pairs)
     returns-2
     returns-3)
