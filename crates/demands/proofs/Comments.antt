@@ -1,4 +1,4 @@
--- Which comments a call refuses, in the words of document 01. Any document, any lent stack, any state. Assumes nothing.
+-- Which comments a call refuses, and where, in the words of documents 01 and 02. Any document, any lent stack, any state. Assumes nothing.
 use Prim.Native.Nat.{ℕ}
 use mathlib.Core.Path.{_≡_, refl, sym, subst}
 use mathlib.Core.List.{List}
@@ -13,7 +13,7 @@ use Rattle.state.specs.declared.run.Step.{Step}
 use Rattle.state.specs.Make.{badState}
 use Rattle.state.specs.Place.{inner}
 use Rattle.state.specs.Values.{kindNumber, valuesOf}
-use Rattle.emit.specs.Bang.{TwoHyphens}
+use Rattle.emit.specs.Bang.{TwoHyphens, FirstOfTwo}
 use Rattle.reader.specs.Sound.{sound}
 use Rattle.reader.specs.Step.{step}
 use Rattle.reader.proofs.Outside.{Commented, step-turn}
@@ -27,7 +27,7 @@ module _ (doc stack : List ℕ) (r : Reader) where
   -- 17 says nothing of comments
   of-bad : Commented doc r (badState r .answer)
   unfolding badState
-  of-bad = record { refused = λ e. absurd (omega arith); passed = λ e. absurd (omega arith) }
+  of-bad = record { refused = λ e. absurd (omega arith); placed = λ e. absurd (omega arith); passed = λ e. absurd (omega arith) }
 
   says : Commented doc r answer
   says = by (sound doc stack r) refl
@@ -45,3 +45,8 @@ module _ (doc stack : List ℕ) (r : Reader) where
           → TwoHyphens doc (inner (valuesOf answer .piece) 4 3) → isDoubleHyphen answer ≡ true
       by (inl e) on two = absurd (says .passed (eqb-true (valuesOf answer .kind) (kindNumber Kind.Comment) e) on two)
       by (inr e) on two = e
+
+  -- THEOREM: "refusal 9 has as its place the first hyphen of the first pair"
+  pub a-comment-is-refused-at-the-first-of-its-hyphens : isDoubleHyphen answer ≡ true
+      → FirstOfTwo doc (inner (valuesOf answer .piece) 4 3) (valuesOf answer .place)
+  a-comment-is-refused-at-the-first-of-its-hyphens e = says .placed (eqb-true (valuesOf answer .number) 9 e)

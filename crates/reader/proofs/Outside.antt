@@ -20,7 +20,7 @@ use Rattle.utf8.specs.Utf8.{check, byUtf8}
 use Rattle.utf8.specs.declared.Utf8.{Utf8}
 use Rattle.parser.specs.Hyphens.{pairFound}
 use Rattle.parser.proofs.Cases.{first-cases}
-use Rattle.parser.proofs.Words.{pair-within, pair-behind, pair-nowhere}
+use Rattle.parser.proofs.Words.{pair-behind, pair-nowhere}
 use Rattle.state.specs.declared.place.Position.{Position}
 use Rattle.state.specs.declared.place.Span.{Span}
 use Rattle.state.specs.declared.config.Config.{Config}
@@ -39,10 +39,11 @@ use Rattle.state.proofs.Numbers.{no-number}
 use Rattle.state.proofs.Spans.{inner-lies, fits}
 use Rattle.emit.specs.Text.{textContent, emitText, emitLastText}
 use Rattle.emit.specs.Reference.{emitRef, emitDangling}
-use Rattle.emit.specs.Bang.{commentOpener, cdataOpener, bangEvent, checkedComment, emitComment, emitCData, TwoHyphens}
+use Rattle.emit.specs.Bang.{commentOpener, cdataOpener, bangEvent, checkedComment, emitComment, emitCData, TwoHyphens, FirstOfTwo}
 use Rattle.emit.specs.Question.{isDecl, questionEvent, emitQuestionMark}
 use Rattle.emit.specs.End.{endEvent, unmatched, differs, matched, emitEnd, closeExpandedEmpty}
 use Rattle.emit.specs.Start.{slashed, tag, opening, emitStart}
+use Rattle.emit.proofs.Hyphens.{pair-first}
 use Rattle.reader.specs.declared.piece.Shape.{Shape}
 use Rattle.reader.specs.declared.piece.Piece.{Piece}
 use Rattle.reader.specs.declared.piece.Cut.{Cut}
@@ -90,9 +91,10 @@ pub data Named (doc : List ℕ) (cap : ℕ) (last : Span) (r : Reader) (s : Step
   closes-nothing : valuesOf (s .answer) .kind ≡ kindNumber Kind.End → r .depth .0 ≡ 0 → s .reader .depth .0 ≡ 0 → r .settings .«allow_unmatched_ends» ≡ true → Named doc cap last r s
   unmatches : valuesOf (s .answer) .number ≡ 11 → r .depth .0 ≡ 0 → s .reader .depth .0 ≡ 0 → r .settings .«allow_unmatched_ends» ≡ false → Named doc cap last r s
 
--- what a call says of a comment: 9 for two hyphens in it, and a Comment where they are looked for and there are none
+-- what a call says of a comment: 9 for two hyphens in it, at the first of them, and a Comment where they are looked for and there are none
 pub record Commented (doc : List ℕ) (r : Reader) (a : Answer) : Type 0 where
   pub refused : valuesOf a .number ≡ 9 → (r .settings .«check_comments» ≡ true) × TwoHyphens doc (inner (valuesOf a .piece) 4 3)
+  pub placed : valuesOf a .number ≡ 9 → FirstOfTwo doc (inner (valuesOf a .piece) 4 3) (valuesOf a .place)
   pub passed : valuesOf a .kind ≡ kindNumber Kind.Comment → r .settings .«check_comments» ≡ true → TwoHyphens doc (inner (valuesOf a .piece) 4 3) → ⊥
 
 pub record Turned (doc : List ℕ) (cap : ℕ) (last : Span) (r : Reader) (s : Step) : Type 0 where
@@ -135,8 +137,8 @@ abbrev Unpaired : List ℕ → Reader → Span → Kind → Type 0
 Unpaired doc r piece k = kindNumber k ≡ kindNumber Kind.Comment → r .settings .«check_comments» ≡ true → TwoHyphens doc (inner piece 4 3) → ⊥
 
 -- and of a refusal that is 9
-abbrev Paired : List ℕ → Reader → Span → Error → Type 0
-Paired doc r piece error = numberedOf error .number ≡ 9 → (r .settings .«check_comments» ≡ true) × TwoHyphens doc (inner piece 4 3)
+abbrev Paired : List ℕ → Reader → Span → Error → Position → Type 0
+Paired doc r piece error place = numberedOf error .number ≡ 9 → (r .settings .«check_comments» ≡ true) × FirstOfTwo doc (inner piece 4 3) (place .0)
 
 -- the same reader but for phase, position and depth
 record Like (r b : Reader) : Type 0 where
@@ -199,10 +201,10 @@ module _ (doc : List ℕ) (cap : ℕ) (last : Span) (r : Reader) (piece : Span) 
         falls = n .falls;
         over = o;
         names = k;
-        comment = record { refused = λ e. absurd (omega arith); passed = u };
+        comment = record { refused = λ e. absurd (omega arith); placed = λ e. absurd (omega arith); passed = u };
       }
 
-  refused-turn : (b : Reader) (error : Error) (place : Position) (next : Phase) → Like r b → Next doc r b (piece .to) next → Paired doc r piece error
+  refused-turn : (b : Reader) (error : Error) (place : Position) (next : Phase) → Like r b → Next doc r b (piece .to) next → Paired doc r piece error place
       → Names (refused b error place piece next) → Turn (refused b error place piece next)
   unfolding refused moved inPlace
   refused-turn b error place next l n p k =
@@ -217,7 +219,7 @@ module _ (doc : List ℕ) (cap : ℕ) (last : Span) (r : Reader) (piece : Span) 
         falls = n .falls;
         over = λ e. absurd (omega arith);
         names = k;
-        comment = record { refused = p; passed = λ e. absurd (omega arith) };
+        comment = record { refused = λ e. (p e .0, (place .0, p e .1 .has)); placed = λ e. p e .1; passed = λ e. absurd (omega arith) };
       }
 
   -- the phases that come next
@@ -309,7 +311,7 @@ module _ (doc : List ℕ) (cap : ℕ) (last : Span) (r : Reader) (piece : Span) 
         (λ p e. pick-cases Turn (ltb to p) _ _
         (λ t. remark-turn _ (λ _ h. pair-behind doc from to p e (ltb-true to p t) (h .0) (h .1)))
         (λ t. refused-turn r Error.DoubleHyphenInComment _ Phase.InsideText (like-itself r) (to-text some r)
-        (λ _. (on, (p - 1, pair-within doc from to p e (ltb-false to p t)))) (keeps (omega arith) refl)))
+        (λ _. (on, pair-first doc from to p e (ltb-false to p t))) (keeps (omega arith) refl)))
         (λ e. remark-turn _ (λ _ h. pair-nowhere doc from to e (h .0) (h .1)))
 
     comment-turn : Turn (emitComment doc r piece)
