@@ -1,7 +1,7 @@
 // Replays what quick-xml 0.42.0 answered: reads cases from standard input, a case to a line, and writes each line with a line for every call up to end of
 // file below it. The file `stdout` beside this program is what the crate said (`tools/record` writes both files), and the check compares the two. A line is
 //   SETTINGS SLOTS BYTES                          a document that both answer alike
-//   difference TAG SETTINGS SLOTS BYTES           one that they do not: TAG is a row of docs/DIFFERENCES.md
+//   difference TAG SETTINGS SLOTS BYTES           one that they do not: TAG is a row of docs/DIFFERENCES.md, or some with `+` between them
 // SETTINGS, SLOTS and BYTES are written as for `cases`. Where a call differs, a line that begins with `crate` stands above our own and has what the crate
 // says, worked out from our answer as that row states. A line that begins with `#` is passed over. The cases have fewer than 262,144 bytes.
 mod calls;

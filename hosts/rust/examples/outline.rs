@@ -40,6 +40,7 @@ fn shown(event: &Event) -> Option<String> {
 fn outline(document: &[u8], out: &mut impl Write) -> io::Result<()> {
     let mut reader = Reader::from_reader(document);
     reader.config_mut().trim_text(true);
+    reader.config_mut().enable_all_checks(true);
     loop {
         let indent = 2 * reader.depth();
         match reader.read_event() {

@@ -42,15 +42,17 @@ pub struct Config {
     /// ```
     pub allow_unmatched_ends: bool,
 
-    /// A comment with `--` in it is [`DoubleHyphenInComment`](crate::IllFormedError::DoubleHyphenInComment). Off by default.
+    /// A comment with `--` in it, or with a hyphen right before its `-->`, is
+    /// [`DoubleHyphenInComment`](crate::IllFormedError::DoubleHyphenInComment), at the first hyphen of the first pair. Off by default.
     ///
     /// ```
     /// use sporebasket::{Error, IllFormedError, Reader};
     ///
-    /// let mut reader = Reader::from_str("<!--a--b-->");
+    /// let mut reader = Reader::from_str("<!--a-b--c-->");
     /// reader.config_mut().check_comments = true;
     /// let error = reader.read_event().unwrap_err();
     /// assert_eq!(error, Error::IllFormed(IllFormedError::DoubleHyphenInComment));
+    /// assert_eq!(reader.error_position(), 7);
     /// ```
     pub check_comments: bool,
 

@@ -93,7 +93,7 @@ pub enum SyntaxError {
 #[derive(Clone, Debug, PartialEq, Eq, Hash)]
 #[non_exhaustive]
 pub enum IllFormedError {
-    /// 9: `--` in a comment, where [`check_comments`](crate::Config::check_comments) is on.
+    /// 9: `--` in a comment, where [`check_comments`](crate::Config::check_comments) is on. Its place is the first hyphen of the first pair.
     DoubleHyphenInComment,
     /// 10: a closing tag with another name than the latest open one, which is no longer open.
     MismatchedEndTag {

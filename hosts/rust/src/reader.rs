@@ -193,7 +193,8 @@ impl<'a> Reader<'a> {
         self.state[state::POSITION] as u64
     }
 
-    /// The place of the last refusal, to be shown to a user; 0 if there was none. As a rule it is where the piece begins.
+    /// The place of the last refusal, to be shown to a user; 0 if there was none. It is where the piece begins, but for two hyphens in a comment,
+    /// where it is the first of them.
     ///
     /// ```
     /// let mut reader = sporebasket::Reader::from_str("<a></b>");

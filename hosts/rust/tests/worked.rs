@@ -132,7 +132,7 @@ const ROWS: &[Row] = &[
         document: b"<!--a-b--c-->",
         settings: "c",
         names: 64,
-        answers: &["refused 9 5 piece 0..13 | text 13 0", "eof 13 13 13 13 0 | done 13 0"],
+        answers: &["refused 9 7 piece 0..13 | text 13 0", "eof 13 13 13 13 0 | done 13 0"],
     },
     row(
         "C0 80",
