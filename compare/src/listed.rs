@@ -5,7 +5,7 @@ use crate::ours::*;
 use crate::theirs::{Seen, Theirs};
 use quick_xml::utils::is_whitespace;
 
-/// The bytes of `<!--`.
+/// How many bytes `<!--` has.
 const OPENER: usize = 4;
 
 /// A call in which the two sides differ.

@@ -18,9 +18,11 @@ const LONGEST_LINE: usize = 170;
 /// Of a case at the borders of blocks.
 const LONGEST_BORDER: usize = 260;
 const LARGEST: usize = 250 << 10;
-const CASES: usize = 4_900;
+const CASES: usize = 5_000;
 /// Of each difference, and of each set of them that comes up in one case.
-const OF_EACH_DIFFERENCE: usize = 100;
+const OF_EACH_DIFFERENCE: usize = 150;
+/// A longer document shows no difference in a new way by its length.
+const SHORT: usize = 24;
 /// One case in so many of those that are compared is looked at.
 const OF: usize = 6;
 
@@ -148,7 +150,7 @@ impl Recorder {
         let steps = steps(case);
         let mut shown = features(case, &steps);
         if !tags.is_empty() {
-            shown.push(hashed(("tags", &tags, steps.len(), case.document.len())));
+            shown.push(hashed(("tags", &tags, steps.len(), case.document.len().min(SHORT))));
         }
         let effects = effects(case, &steps);
         shown.extend(effects.iter().map(|effect| effect.1));
@@ -156,15 +158,17 @@ impl Recorder {
         if fresh == 0 && !self.any || !self.lines.insert(trace::case_line(case)) {
             return;
         }
-        if tags.is_empty() {
-            self.cases.push(Kept::of(case));
-        } else {
-            let of_these = self.differences.entry(tags.clone()).or_default();
-            if of_these.len() == OF_EACH_DIFFERENCE || unplaced(case, &tags, &steps) {
-                return;
-            }
-            of_these.push(Kept::of(case));
+        if unplaced(case, &tags, &steps) {
+            return;
         }
+        let (into, most) = match &tags[..] {
+            [] => (&mut self.cases, usize::MAX),
+            _ => (self.differences.entry(tags).or_default(), OF_EACH_DIFFERENCE),
+        };
+        if into.len() == most {
+            return;
+        }
+        into.push(Kept::of(case));
         self.seen.extend(shown);
         self.tally.add(&tally);
         let turned = effects.iter().filter(|(flag, _)| (case.settings ^ DEFAULT) >> flag & 1 == 1);
@@ -204,11 +208,12 @@ fn lines_of(case: &Case, out: &mut String) {
     }
 }
 
-/// Cases at the borders of the blocks that ours looks at at a time: pieces that end there, with bytes behind them and without, and names of closing tags that are
-/// other in one byte.
+/// Cases at the borders of the blocks that ours looks at at a time: pieces that end there, with bytes behind them and without, comments with their hyphens checked, and
+/// names of closing tags that are other in one byte.
 fn borders(recorder: &mut Recorder) {
     let mut look = |parts: &[&[u8]]| {
-        let case = Case { document: &parts.concat(), settings: DEFAULT, slots: 16 };
+        let settings = if parts[0].starts_with(b"<!--") { DEFAULT | COMMENTS } else { DEFAULT };
+        let case = Case { document: &parts.concat(), settings, slots: 16 };
         if trace::case_line(&case).len() <= LONGEST_BORDER {
             recorder.look(&case);
         }

@@ -83,6 +83,7 @@ fn text() -> Vec<Alphabet> {
         bytes("white space", b"", b" \t\n\r\x0B\x0Ca<&", (4, 6), &[DANGLING, TRIM_START, TRIM_END, TRIM_NAMES]),
         bytes("byte order marks", b"", b"\xEF\xBB\xBFa<> ", (5, 7), &[TRIM_START, TRIM_END]),
         bytes("behind a byte order mark", b"\xEF\xBB\xBF", b"<>/!-?&;a \xEF\xFF", (4, 5), &[DANGLING, TRIM_START, TRIM_END, EXPAND]),
+        bytes("ill formed behind a byte order mark and two hyphens", b"\xEF\xBB\xBF<!--a-b--", b"->&\xFF", (6, 9), &[COMMENTS]),
         bytes("ill formed behind two hyphens", b"<!--a-b--", b"->a&;\xFF\xC3", (5, 7), &[COMMENTS, DANGLING]),
         bytes("ill formed behind a refusal", b"</>", b"</>a\xFF&;\xC3", (5, 6), &[DANGLING, TRIM_START]),
     ]

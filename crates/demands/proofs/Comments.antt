@@ -13,7 +13,7 @@ use Rattle.state.specs.declared.run.Step.{Step}
 use Rattle.state.specs.Make.{badState}
 use Rattle.state.specs.Place.{inner}
 use Rattle.state.specs.Values.{kindNumber, valuesOf}
-use Rattle.emit.specs.Bang.{TwoHyphens, FirstOfTwo}
+use Rattle.emit.specs.Bang.{TwoHyphens, FirstPair}
 use Rattle.reader.specs.Sound.{sound}
 use Rattle.reader.specs.Step.{step}
 use Rattle.reader.proofs.Outside.{Commented, step-turn}
@@ -27,7 +27,7 @@ module _ (doc stack : List ℕ) (r : Reader) where
   -- 17 says nothing of comments
   of-bad : Commented doc r (badState r .answer)
   unfolding badState
-  of-bad = record { refused = λ e. absurd (omega arith); placed = λ e. absurd (omega arith); passed = λ e. absurd (omega arith) }
+  of-bad = record { refused = λ e. absurd (omega arith); passed = λ e. absurd (omega arith) }
 
   says : Commented doc r answer
   says = by (sound doc stack r) refl
@@ -36,10 +36,14 @@ module _ (doc stack : List ℕ) (r : Reader) where
       by true e = step-turn doc stack r e .comment
       by false e = subst (λ (s : Step). Commented doc r (s .answer)) (sym (bad-step doc stack r e)) of-bad
 
+  -- what 9 says
+  nine : isDoubleHyphen answer ≡ true → (r .settings .«check_comments» ≡ true) × FirstPair doc (inner (valuesOf answer .piece) 4 3) (valuesOf answer .place)
+  nine e = says .refused (eqb-true (valuesOf answer .number) 9 e)
+
   -- THEOREM: "With `check_comments`, a comment is refused (9) if a content `-` is followed by `-` (the closer's included)", and only then
   pub a-comment-is-refused-exactly-for-its-hyphens : (isComment answer ≡ true) ⊎ (isDoubleHyphen answer ≡ true)
       → (isDoubleHyphen answer ≡ true) ↔ ((r .settings .«check_comments» ≡ true) × TwoHyphens doc (inner (valuesOf answer .piece) 4 3))
-  a-comment-is-refused-exactly-for-its-hyphens which = (λ e. says .refused (eqb-true (valuesOf answer .number) 9 e), λ h. by which (h .0) (h .1))
+  a-comment-is-refused-exactly-for-its-hyphens which = (λ e. (nine e .0, (valuesOf answer .place, nine e .1 .has)), λ h. by which (h .0) (h .1))
     where
       by : (isComment answer ≡ true) ⊎ (isDoubleHyphen answer ≡ true) → r .settings .«check_comments» ≡ true
           → TwoHyphens doc (inner (valuesOf answer .piece) 4 3) → isDoubleHyphen answer ≡ true
@@ -47,6 +51,6 @@ module _ (doc stack : List ℕ) (r : Reader) where
       by (inr e) on two = e
 
   -- THEOREM: "refusal 9 has as its place the first hyphen of the first pair"
-  pub a-comment-is-refused-at-the-first-of-its-hyphens : isDoubleHyphen answer ≡ true
-      → FirstOfTwo doc (inner (valuesOf answer .piece) 4 3) (valuesOf answer .place)
-  a-comment-is-refused-at-the-first-of-its-hyphens e = says .placed (eqb-true (valuesOf answer .number) 9 e)
+  pub a-comment-is-refused-at-the-first-hyphen-of-its-first-pair : isDoubleHyphen answer ≡ true
+      → FirstPair doc (inner (valuesOf answer .piece) 4 3) (valuesOf answer .place)
+  a-comment-is-refused-at-the-first-hyphen-of-its-first-pair e = nine e .1

@@ -12,15 +12,14 @@ use Rattle.ground.specs.Equal.{begins}
 use Rattle.ground.proofs.Choices.{pick-cases, clash}
 use Rattle.parser.specs.Hyphens.{pairFound}
 use Rattle.parser.proofs.Cases.{first-cases}
-use Rattle.parser.proofs.Words.{pair-within, pair-behind, pair-nowhere}
+use Rattle.parser.proofs.Words.{pair-first, pair-behind, pair-nowhere}
 use Rattle.state.specs.declared.place.Span.{Span}
 use Rattle.state.specs.declared.run.Reader.{Reader}
 use Rattle.state.specs.declared.run.Step.{Step}
 use Rattle.state.specs.Place.{inner}
 use Rattle.state.specs.Make.{told, refused, stopped}
 use Rattle.state.specs.Values.{valuesOf}
-use Rattle.emit.specs.Bang.{commentOpener, bangEvent, checkedComment, emitComment, TwoHyphens, FirstOfTwo}
-use Rattle.emit.proofs.Hyphens.{pair-first}
+use Rattle.emit.specs.Bang.{commentOpener, bangEvent, checkedComment, emitComment, TwoHyphens, FirstPair}
 
 -- the number of a refusal, 0 for an event
 abbrev numberOf : Step → ℕ
@@ -37,17 +36,17 @@ module _ (doc : List ℕ) (r : Reader) (piece content : Span) where
       first-cases Right (pairFound doc (content .from)) _ _
       (λ p e. pick-cases Right (ltb (content .to) p) _ _
       (λ t. (λ n. absurd (omega arith), λ h. absurd (pair-behind doc (content .from) (content .to) p e (ltb-true (content .to) p t) (h .0) (h .1))))
-      (λ t. (λ _. (p - 1, pair-within doc (content .from) (content .to) p e (ltb-false (content .to) p t)), λ _. refl)))
+      (λ t. (λ _. (p - 1, pair-first doc (content .from) (content .to) p e (ltb-false (content .to) p t) .has), λ _. refl)))
       (λ e. (λ n. absurd (omega arith), λ h. absurd (pair-nowhere doc (content .from) (content .to) e (h .0) (h .1))))
 
   abbrev Stands : Step → Type 0
-  Stands s = numberOf s ≡ 9 → FirstOfTwo doc content (valuesOf (s .answer) .place)
+  Stands s = numberOf s ≡ 9 → FirstPair doc content (valuesOf (s .answer) .place)
 
   -- THEOREM: "refusal 9 has as its place the first hyphen of the first pair"
-  pub nine-at-the-first-of-two-hyphens : valuesOf (checkedComment doc r piece content .answer) .number ≡ 9
-      → FirstOfTwo doc content (valuesOf (checkedComment doc r piece content .answer) .place)
+  pub nine-at-the-first-hyphen-of-the-first-pair : valuesOf (checkedComment doc r piece content .answer) .number ≡ 9
+      → FirstPair doc content (valuesOf (checkedComment doc r piece content .answer) .place)
   unfolding checkedComment bangEvent told refused
-  nine-at-the-first-of-two-hyphens =
+  nine-at-the-first-hyphen-of-the-first-pair =
       first-cases Stands (pairFound doc (content .from)) _ _
       (λ p e. pick-cases Stands (ltb (content .to) p) _ _
       (λ t n. absurd (omega arith))
@@ -71,15 +70,15 @@ module _ (doc : List ℕ) (r : Reader) (piece : Span) where
       (λ other. (λ n. absurd (omega arith), λ h. clash _ (h .0) other))
 
   abbrev Placed : Step → Type 0
-  Placed s = numberOf s ≡ 9 → FirstOfTwo doc (inner piece 4 3) (valuesOf (s .answer) .place)
+  Placed s = numberOf s ≡ 9 → FirstPair doc (inner piece 4 3) (valuesOf (s .answer) .place)
 
   -- THEOREM: the same of a piece
-  pub a-comment-is-refused-at-the-first-of-two-hyphens : valuesOf (emitComment doc r piece .answer) .number ≡ 9
-      → FirstOfTwo doc (inner piece 4 3) (valuesOf (emitComment doc r piece .answer) .place)
+  pub a-comment-is-refused-at-the-first-hyphen-of-the-first-pair : valuesOf (emitComment doc r piece .answer) .number ≡ 9
+      → FirstPair doc (inner piece 4 3) (valuesOf (emitComment doc r piece .answer) .place)
   unfolding emitComment bangEvent told stopped refused
-  a-comment-is-refused-at-the-first-of-two-hyphens =
+  a-comment-is-refused-at-the-first-hyphen-of-the-first-pair =
       pick-cases Placed (begins (drop (piece .from) doc) commentOpener) _ _
       (λ opens. pick-cases Placed (r .settings .«check_comments») _ _
-      (λ checks. nine-at-the-first-of-two-hyphens doc r piece (inner piece 4 3))
+      (λ checks. nine-at-the-first-hyphen-of-the-first-pair doc r piece (inner piece 4 3))
       (λ off n. absurd (omega arith)))
       (λ other n. absurd (omega arith))

@@ -1,4 +1,4 @@
--- Comments and CDATA (document 01, "Steps").
+-- Comments and CDATA (document 01, "Steps"; the place of 9 by document 02).
 use Prim.Native.Nat.{ℕ, _-_}
 use mathlib.Core.List.{List, [], _∷_}
 use lib.ListN.{drop}
@@ -31,7 +31,7 @@ unfoldable pub bangEvent : Reader → Kind → Span → Span → Step
 bangEvent r kind piece content = told r (event kind piece content 0) Phase.InsideText
 
 -- "With `check_comments`, a comment is refused (9) if a content `-` is followed by `-` (the closer's included)": the first two hyphens in a row end at the
--- content's end at the latest, where the closer begins. "refusal 9 has as its place the first hyphen of the first pair" (document 02), the one before `second`
+-- content's end at the latest, where the closer begins. "refusal 9 has as its place the first hyphen of the first pair": the one before `second`
 unfoldable pub checkedComment : List ℕ → Reader → Span → Span → Step
 checkedComment doc r piece content =
     byFirst (pairFound doc (content .from))
@@ -61,6 +61,6 @@ emitCData doc r piece =
 abbrev pub TwoHyphens : List ℕ → Span → Type 0
 TwoHyphens doc content = (k : ℕ) × HyphensAt doc (content .from) (content .to) k
 
--- "the first hyphen of the first pair": the least place, from the content's start on, with hyphens there and right after it
-abbrev pub FirstOfTwo : List ℕ → Span → ℕ → Type 0
-FirstOfTwo doc content = Least (HyphensAt doc (content .from) (content .to))
+-- "the first hyphen of the first pair": the least place of the content with hyphens there and right after it (the closer's included)
+abbrev pub FirstPair : List ℕ → Span → ℕ → Type 0
+FirstPair doc content = Least (HyphensAt doc (content .from) (content .to))

@@ -12,7 +12,7 @@ use lib.Dec.{eqb}
 use borrow.Author.Tests.{eqb-true, eqb-false}
 use Rattle.ground.specs.Choose.{pick}
 use Rattle.ground.specs.Bytes.{quot, apos, gt, hyphen, question, closeBracket}
-use Rattle.ground.specs.Least.{Nowhere, Gives}
+use Rattle.ground.specs.Least.{Least, Nowhere, Gives}
 use Rattle.ground.proofs.Choices.{pick-cases, clash}
 use Rattle.ground.proofs.Lists.{stands-in, part-in, take-next}
 use Rattle.parser.specs.Machine.{Next, go, scanAt}
@@ -278,12 +278,16 @@ module _ (s : List ℕ) (from to : ℕ) where
         first = rw back (h .first);
       }
 
-  -- the scan finds one that ends in the span
-  pub pair-within : (p : ℕ) → pairFound s from ≡ FirstAt p → p ≤ to → HyphensAt s from to (p - 1)
-  pair-within p e l =
-      let h = pair-gives s from .found p .0 e .has in
+  -- the scan finds one that ends in the span: it is the first there
+  pub pair-first : (p : ℕ) → pairFound s from ≡ FirstAt p → p ≤ to → Least (HyphensAt s from to) (p - 1)
+  pair-first p e l =
+      let least = pair-gives s from .found p .0 e in
+      let h = least .has in
       let on : p - 1 + 1 ≡ p = omega (arith, h .after) in
-      record { after = omega (arith, h .after); before = omega (arith, h .after); first = h .first; second = rw on (h .second) }
+      record {
+        has = record { after = omega (arith, h .after); before = omega (arith, h .after); first = h .first; second = rw on (h .second) };
+        before = λ k b two. least .before (k + 1) (omega (arith, b)) (pair-of k two);
+      }
 
   -- one that ends behind it, or none
   pub pair-behind : (p : ℕ) → pairFound s from ≡ FirstAt p → to < p → Nowhere (HyphensAt s from to)

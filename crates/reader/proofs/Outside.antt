@@ -20,7 +20,7 @@ use Rattle.utf8.specs.Utf8.{check, byUtf8}
 use Rattle.utf8.specs.declared.Utf8.{Utf8}
 use Rattle.parser.specs.Hyphens.{pairFound}
 use Rattle.parser.proofs.Cases.{first-cases}
-use Rattle.parser.proofs.Words.{pair-behind, pair-nowhere}
+use Rattle.parser.proofs.Words.{pair-first, pair-behind, pair-nowhere}
 use Rattle.state.specs.declared.place.Position.{Position}
 use Rattle.state.specs.declared.place.Span.{Span}
 use Rattle.state.specs.declared.config.Config.{Config}
@@ -39,11 +39,10 @@ use Rattle.state.proofs.Numbers.{no-number}
 use Rattle.state.proofs.Spans.{inner-lies, fits}
 use Rattle.emit.specs.Text.{textContent, emitText, emitLastText}
 use Rattle.emit.specs.Reference.{emitRef, emitDangling}
-use Rattle.emit.specs.Bang.{commentOpener, cdataOpener, bangEvent, checkedComment, emitComment, emitCData, TwoHyphens, FirstOfTwo}
+use Rattle.emit.specs.Bang.{commentOpener, cdataOpener, bangEvent, checkedComment, emitComment, emitCData, TwoHyphens, FirstPair}
 use Rattle.emit.specs.Question.{isDecl, questionEvent, emitQuestionMark}
 use Rattle.emit.specs.End.{endEvent, unmatched, differs, matched, emitEnd, closeExpandedEmpty}
 use Rattle.emit.specs.Start.{slashed, tag, opening, emitStart}
-use Rattle.emit.proofs.Hyphens.{pair-first}
 use Rattle.reader.specs.declared.piece.Shape.{Shape}
 use Rattle.reader.specs.declared.piece.Piece.{Piece}
 use Rattle.reader.specs.declared.piece.Cut.{Cut}
@@ -91,10 +90,9 @@ pub data Named (doc : List ℕ) (cap : ℕ) (last : Span) (r : Reader) (s : Step
   closes-nothing : valuesOf (s .answer) .kind ≡ kindNumber Kind.End → r .depth .0 ≡ 0 → s .reader .depth .0 ≡ 0 → r .settings .«allow_unmatched_ends» ≡ true → Named doc cap last r s
   unmatches : valuesOf (s .answer) .number ≡ 11 → r .depth .0 ≡ 0 → s .reader .depth .0 ≡ 0 → r .settings .«allow_unmatched_ends» ≡ false → Named doc cap last r s
 
--- what a call says of a comment: 9 for two hyphens in it, at the first of them, and a Comment where they are looked for and there are none
+-- what a call says of a comment: 9 for two hyphens in it, at the first of the first two, and a Comment where they are looked for and there are none
 pub record Commented (doc : List ℕ) (r : Reader) (a : Answer) : Type 0 where
-  pub refused : valuesOf a .number ≡ 9 → (r .settings .«check_comments» ≡ true) × TwoHyphens doc (inner (valuesOf a .piece) 4 3)
-  pub placed : valuesOf a .number ≡ 9 → FirstOfTwo doc (inner (valuesOf a .piece) 4 3) (valuesOf a .place)
+  pub refused : valuesOf a .number ≡ 9 → (r .settings .«check_comments» ≡ true) × FirstPair doc (inner (valuesOf a .piece) 4 3) (valuesOf a .place)
   pub passed : valuesOf a .kind ≡ kindNumber Kind.Comment → r .settings .«check_comments» ≡ true → TwoHyphens doc (inner (valuesOf a .piece) 4 3) → ⊥
 
 pub record Turned (doc : List ℕ) (cap : ℕ) (last : Span) (r : Reader) (s : Step) : Type 0 where
@@ -138,7 +136,7 @@ Unpaired doc r piece k = kindNumber k ≡ kindNumber Kind.Comment → r .setting
 
 -- and of a refusal that is 9
 abbrev Paired : List ℕ → Reader → Span → Error → Position → Type 0
-Paired doc r piece error place = numberedOf error .number ≡ 9 → (r .settings .«check_comments» ≡ true) × FirstOfTwo doc (inner piece 4 3) (place .0)
+Paired doc r piece error place = numberedOf error .number ≡ 9 → (r .settings .«check_comments» ≡ true) × FirstPair doc (inner piece 4 3) (place .0)
 
 -- the same reader but for phase, position and depth
 record Like (r b : Reader) : Type 0 where
@@ -201,7 +199,7 @@ module _ (doc : List ℕ) (cap : ℕ) (last : Span) (r : Reader) (piece : Span) 
         falls = n .falls;
         over = o;
         names = k;
-        comment = record { refused = λ e. absurd (omega arith); placed = λ e. absurd (omega arith); passed = u };
+        comment = record { refused = λ e. absurd (omega arith); passed = u };
       }
 
   refused-turn : (b : Reader) (error : Error) (place : Position) (next : Phase) → Like r b → Next doc r b (piece .to) next → Paired doc r piece error place
@@ -219,7 +217,7 @@ module _ (doc : List ℕ) (cap : ℕ) (last : Span) (r : Reader) (piece : Span) 
         falls = n .falls;
         over = λ e. absurd (omega arith);
         names = k;
-        comment = record { refused = λ e. (p e .0, (place .0, p e .1 .has)); placed = λ e. p e .1; passed = λ e. absurd (omega arith) };
+        comment = record { refused = p; passed = λ e. absurd (omega arith) };
       }
 
   -- the phases that come next

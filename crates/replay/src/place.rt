@@ -28,7 +28,7 @@ pub fn next_place(values: Values, document: &[u8], before: usize) -> usize {
     }
 }
 
-// `hyphen-place`: the content's start, and the bytes between the lone hyphen before the pair, or the opener, and the pair.
+// `hyphen-place`: the content's start, and as many bytes as stand between the last lone hyphen before the pair, or the opener, and the pair.
 fn hyphen_place(document: &[u8], from: usize, pair: usize) -> usize {
     let mut told = from;
     let mut i = from;
