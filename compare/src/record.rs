@@ -19,7 +19,7 @@ const LONGEST_LINE: usize = 170;
 const LONGEST_BORDER: usize = 260;
 const LARGEST: usize = 250 << 10;
 const CASES: usize = 5_000;
-/// Of each difference, and of each set of them that comes up in one case.
+/// So many cases at most of a difference, and of a set of them that comes up in one case.
 const OF_EACH_DIFFERENCE: usize = 150;
 /// A longer document shows no difference in a new way by its length.
 const SHORT: usize = 24;

@@ -25,6 +25,10 @@ use Rattle.emit.specs.Bang.{commentOpener, bangEvent, checkedComment, em
 abbrev numberOf : Step → ℕ
 numberOf s = valuesOf (s .answer) .number
 
+-- a 9 stands where the first pair does
+abbrev Stands : List ℕ → Span → Step → Type 0
+Stands doc content s = numberOf s ≡ 9 → FirstPair doc content (valuesOf (s .answer) .place)
+
 module _ (doc : List ℕ) (r : Reader) (piece content : Span) where
   abbrev Right : Step → Type 0
   Right s = (numberOf s ≡ 9) ↔ TwoHyphens doc content
@@ -39,16 +43,13 @@ module _ (doc : List ℕ) (r : Reader) (piece content : Span) where
       (λ t. (λ _. (p - 1, pair-first doc (content .from) (content .to) p e (ltb-false (content .to) p t) .has), λ _. refl)))
       (λ e. (λ n. absurd (omega arith), λ h. absurd (pair-nowhere doc (content .from) (content .to) e (h .0) (h .1))))
 
-  abbrev Stands : Step → Type 0
-  Stands s = numberOf s ≡ 9 → FirstPair doc content (valuesOf (s .answer) .place)
-
   -- THEOREM: "refusal 9 has as its place the first hyphen of the first pair"
   pub nine-at-the-first-hyphen-of-the-first-pair : valuesOf (checkedComment doc r piece content .answer) .number ≡ 9
       → FirstPair doc content (valuesOf (checkedComment doc r piece content .answer) .place)
   unfolding checkedComment bangEvent told refused
   nine-at-the-first-hyphen-of-the-first-pair =
-      first-cases Stands (pairFound doc (content .from)) _ _
-      (λ p e. pick-cases Stands (ltb (content .to) p) _ _
+      first-cases (Stands doc content) (pairFound doc (content .from)) _ _
+      (λ p e. pick-cases (Stands doc content) (ltb (content .to) p) _ _
       (λ t n. absurd (omega arith))
       (λ t n. pair-first doc (content .from) (content .to) p e (ltb-false (content .to) p t)))
       (λ e n. absurd (omega arith))
@@ -69,16 +70,13 @@ module _ (doc : List ℕ) (r : Reader) (piece : Span) where
       (λ off. (λ n. absurd (omega arith), λ h. clash _ (h .1) off)))
       (λ other. (λ n. absurd (omega arith), λ h. clash _ (h .0) other))
 
-  abbrev Placed : Step → Type 0
-  Placed s = numberOf s ≡ 9 → FirstPair doc (inner piece 4 3) (valuesOf (s .answer) .place)
-
   -- THEOREM: the same of a piece
   pub a-comment-is-refused-at-the-first-hyphen-of-the-first-pair : valuesOf (emitComment doc r piece .answer) .number ≡ 9
       → FirstPair doc (inner piece 4 3) (valuesOf (emitComment doc r piece .answer) .place)
   unfolding emitComment bangEvent told stopped refused
   a-comment-is-refused-at-the-first-hyphen-of-the-first-pair =
-      pick-cases Placed (begins (drop (piece .from) doc) commentOpener) _ _
-      (λ opens. pick-cases Placed (r .settings .«check_comments») _ _
+      pick-cases (Stands doc (inner piece 4 3)) (begins (drop (piece .from) doc) commentOpener) _ _
+      (λ opens. pick-cases (Stands doc (inner piece 4 3)) (r .settings .«check_comments») _ _
       (λ checks. nine-at-the-first-hyphen-of-the-first-pair doc r piece (inner piece 4 3))
       (λ off n. absurd (omega arith)))
       (λ other n. absurd (omega arith))
