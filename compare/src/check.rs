@@ -32,7 +32,7 @@ pub struct Difference {
 pub const PANIC: Difference = Difference { call: 0, fields: 0 };
 
 /// Names of what can differ: the slots of an answer, then those of a state, then the rest.
-pub const FIELDS: [&str; 27] = [
+pub const FIELDS: [&str; 28] = [
     "kind",
     "number",
     "place",
@@ -60,6 +60,7 @@ pub const FIELDS: [&str; 27] = [
     "making a reader",
     "part handed back",
     "alike, where a difference is listed",
+    "bytes that are well formed",
 ];
 const STATE_BITS: usize = ANSWER_SLOTS;
 const RETURNED: u32 = 1 << 17;
@@ -72,6 +73,7 @@ const LEAVING: u32 = 1 << 23;
 const MAKING: u32 = 1 << 24;
 const PART: u32 = 1 << 25;
 const LISTED: u32 = 1 << 26;
+const GOOD: u32 = 1 << 27;
 
 /// What the crate's side was before a call.
 pub struct Before {
@@ -87,7 +89,7 @@ impl Before {
     }
 
     /// Where the piece of the coming call starts: behind a byte order mark, and behind white space that is skipped.
-    fn start(&self, case: &Case, mark: usize) -> usize {
+    pub fn start(&self, case: &Case, mark: usize) -> usize {
         let at = self.position + mark;
         if case.settings & TRIM_START == 0 || !matches!(self.phase, INIT | TEXT_PHASE) {
             return at;
@@ -239,6 +241,9 @@ impl<E: Engine> Bench<E> {
         if !self.bytes_hold(case, before, seen, &wanted) {
             fields |= BYTES;
         }
+        if seen.number == ENCODING && !self.good_holds(case, seen, &wanted) {
+            fields |= GOOD;
+        }
         let (from, to) = (self.answer[CONTENT_FROM], self.answer[CONTENT_TO]);
         if self.engine.content(case.document, from, to) != (0, [from, to]) {
             fields |= PART;
@@ -297,6 +302,13 @@ impl<E: Engine> Bench<E> {
             (_, UNMATCHED_END) => is(wanted[FOUND_FROM], wanted[FOUND_TO], &seen.found),
             _ => true,
         }
+    }
+
+    /// The place of 13 is as far in its piece as the crate's error says that the piece is good, and as far in the document as Rust's own check says
+    /// that the document is.
+    fn good_holds(&self, case: &Case, seen: &Seen, wanted: &[usize]) -> bool {
+        let place = self.answer[PLACE];
+        place == wanted[PIECE_FROM] + seen.good && place == first_ill(case.document)
     }
 
     /// The stack is what it has to be, a large one near its depth and at both ends.
@@ -391,6 +403,11 @@ impl<E: Engine> Bench<E> {
 /// The state and the answer are lent with as many slots as they have, or, for a document of odd length, with more.
 fn state_slots(case: &Case) -> usize {
     STATE_SLOTS + if case.document.len() % 2 == 1 { MARGIN / 2 } else { 0 }
+}
+
+/// How many bytes of a document are well formed, by Rust's own check.
+pub fn first_ill(document: &[u8]) -> usize {
+    std::str::from_utf8(document).map_or_else(|e| e.valid_up_to(), str::len)
 }
 
 /// Where the piece starts: told by where the crate's content lies, or by its place of a refusal. The crate has nothing to tell it by for

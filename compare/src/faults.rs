@@ -76,6 +76,11 @@ impl Call<'_> {
         self.part(CONTENT_FROM)
     }
 
+    /// Why the piece is no UTF-8.
+    fn ill(&self) -> Option<std::str::Utf8Error> {
+        std::str::from_utf8(self.piece()).err()
+    }
+
     /// What stands in the document from the piece's start on.
     fn rest(&self) -> &[u8] {
         self.document.get(self.answer[PIECE_FROM]..).unwrap_or_default()

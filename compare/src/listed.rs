@@ -1,6 +1,6 @@
 //! The differences that are listed in docs/DIFFERENCES.md, each with exactly what the crate says in the place of ours.
 
-use crate::check::{Before, Case};
+use crate::check::{first_ill, Before, Case};
 use crate::ours::*;
 use crate::theirs::{Seen, Theirs};
 use quick_xml::utils::is_whitespace;
@@ -69,11 +69,18 @@ fn lone_and_pair(comment: &[u8]) -> Option<(usize, usize)> {
     Some((OPENER + lone, OPENER + pair))
 }
 
-/// Ill-formed UTF-8 in text or in a reference that does not start where the refusal before has its place.
+/// Ill-formed UTF-8 in markup; or in text or a reference, but for a byte that stands where the refusal before has its place.
 fn is_ill_formed(told: &Told) -> bool {
-    told.answer[NUMBER] == ENCODING
-        && !piece(told).starts_with(b"<")
-        && told.answer[PIECE_FROM] != told.before.place + told.theirs.mark
+    told.answer[NUMBER] == ENCODING && first_ill(told.case.document) != their_ill(told)
+}
+
+/// The place that the crate tells of ill-formed UTF-8: the start of markup; in text and in a reference none, so that of the refusal before stays, or 0.
+fn their_ill(told: &Told) -> usize {
+    let start = told.before.start(told.case, told.theirs.mark);
+    if told.case.document.get(start) == Some(&b'<') {
+        return start;
+    }
+    told.before.place + told.theirs.mark
 }
 
 /// Our content is the whole piece, the crate's is without the white space at its end.
@@ -92,7 +99,7 @@ fn hyphen_place(told: &Told) -> bool {
     told.answer[PLACE] == from + pair && told.theirs.place() + told.theirs.mark == from + OPENER + (pair - lone - 1)
 }
 
-/// Our place is the piece's start, the crate's still that of the refusal before, or 0.
+/// Our place is the first byte of the document that is not well formed.
 fn encoding_place(told: &Told) -> bool {
-    told.answer[PLACE] == told.answer[PIECE_FROM] && told.theirs.place() == told.before.place
+    told.answer[PLACE] == first_ill(told.case.document) && told.theirs.place() + told.theirs.mark == their_ill(told)
 }

@@ -18,9 +18,9 @@ const LONGEST_LINE: usize = 170;
 /// Of a case at the borders of blocks.
 const LONGEST_BORDER: usize = 260;
 const LARGEST: usize = 250 << 10;
-const CASES: usize = 5_000;
+const CASES: usize = 4_600;
 /// So many cases at most of a difference, and of a set of them that comes up in one case.
-const OF_EACH_DIFFERENCE: usize = 150;
+const OF_EACH_DIFFERENCE: usize = 500;
 /// A longer document shows no difference in a new way by its length.
 const SHORT: usize = 24;
 /// One case in so many of those that are compared is looked at.
@@ -158,9 +158,6 @@ impl Recorder {
         if fresh == 0 && !self.any || !self.lines.insert(trace::case_line(case)) {
             return;
         }
-        if unplaced(case, &tags, &steps) {
-            return;
-        }
         let (into, most) = match &tags[..] {
             [] => (&mut self.cases, usize::MAX),
             _ => (self.differences.entry(tags).or_default(), OF_EACH_DIFFERENCE),
@@ -175,12 +172,6 @@ impl Recorder {
         turned.for_each(|&(flag, _)| self.flags[flag] += 1);
         self.full += (steps.iter().any(|step| step.depth > 0 && step.depth == capacity(case.slots))) as usize;
     }
-}
-
-/// Behind a byte order mark, with no refusal before, the place that the crate gives is no position: such a case is not recorded.
-fn unplaced(case: &Case, tags: &[usize], steps: &[Step]) -> bool {
-    let refusals = steps.iter().filter(|step| step.class > 100).count();
-    tags.iter().any(|&tag| listed::TAGS[tag] == "encoding-place") && case.document.starts_with(b"\xEF\xBB\xBF") && refusals < 2
 }
 
 impl Sink for Recorder {

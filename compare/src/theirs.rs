@@ -1,6 +1,7 @@
 //! The crate's side: its slice reader, and what one call of it answers, in our numbers.
 
 use crate::ours::*;
+use quick_xml::encoding::EncodingError;
 use quick_xml::errors::{Error, IllFormedError, SyntaxError};
 use quick_xml::events::Event;
 use quick_xml::reader::{Config, Reader};
@@ -31,6 +32,8 @@ pub struct Seen {
     pub made: String,
     /// The name found of 10 and 11.
     pub found: String,
+    /// How many bytes of its piece 13 says are well formed.
+    pub good: usize,
 }
 
 impl<'a> Theirs<'a> {
@@ -139,7 +142,10 @@ fn refusal(error: Error) -> Seen {
         }
         Error::IllFormed(IllFormedError::UnclosedReference) => 12,
         Error::IllFormed(IllFormedError::MissingDoctypeName) => THEIR_DOCTYPE,
-        Error::Encoding(_) => ENCODING,
+        Error::Encoding(EncodingError::Utf8(e)) => {
+            seen.good = e.valid_up_to();
+            ENCODING
+        }
         _ => UNKNOWN,
     };
     seen

@@ -262,6 +262,40 @@ const PLACES: &[Fault] = &[
     ),
     act("place of 9 is the piece's start", |c| c.number() == DOUBLE_HYPHEN, |c| c.answer[PLACE] = c.answer[PIECE_FROM]),
     act("the second refusal has the first one's place", |c| c.number() > 0 && c.last_place > 0, |c| c.answer[PLACE] = c.last_place),
+    act("place of 13 is the piece's start", |c| c.number() == ENCODING, |c| c.answer[PLACE] = c.answer[PIECE_FROM]),
+    act("place of 13 in markup is the piece's start", |c| c.number() == ENCODING && c.piece().starts_with(b"<"), |c| c.answer[PLACE] = c.answer[PIECE_FROM]),
+    act("place of 13 in a reference is the piece's start", |c| c.number() == ENCODING && c.piece().starts_with(b"&"), |c| c.answer[PLACE] = c.answer[PIECE_FROM]),
+    act(
+        "place of 13 is the last byte of the sequence",
+        |c| c.number() == ENCODING,
+        |c| c.answer[PLACE] += c.ill().map_or(0, |e| e.error_len().unwrap_or(c.piece().len() - e.valid_up_to()) - 1),
+    ),
+    act("place of 13 is behind the sequence's first byte", |c| c.number() == ENCODING, |c| c.answer[PLACE] += 1),
+    act("place of 13 is counted in the piece", |c| c.number() == ENCODING, |c| c.answer[PLACE] -= c.answer[PIECE_FROM]),
+    act(
+        "place of 13 is counted in characters",
+        |c| c.number() == ENCODING,
+        |c| {
+            let before = &c.document[c.answer[PIECE_FROM]..c.answer[PLACE]];
+            c.answer[PLACE] -= before.iter().filter(|&&b| matches!(b, 0x80..0xC0)).count();
+        },
+    ),
+    act(
+        "place of 13 is the first byte beyond ASCII",
+        |c| c.number() == ENCODING,
+        |c| c.answer[PLACE] = c.answer[PIECE_FROM] + c.piece().iter().position(|b| !b.is_ascii()).unwrap_or_default(),
+    ),
+    act("place of 13 is that of its 16 bytes", |c| c.number() == ENCODING && c.answer[PLACE] > 15, |c| c.answer[PLACE] &= !15),
+    act(
+        "place of a character cut off is the piece's end",
+        |c| c.number() == ENCODING && c.ill().is_some_and(|e| e.error_len().is_none()),
+        |c| c.answer[PLACE] = c.answer[PIECE_TO],
+    ),
+    act(
+        "place of the second ill-formed byte in a row",
+        |c| c.number() == ENCODING && c.document.get(c.answer[PLACE] + 1) == Some(&0xFF),
+        |c| c.answer[PLACE] += 1,
+    ),
     act("place of ill-formed text is past the document", ill_formed, |c| c.answer[PLACE] = c.document.len() + 1),
     act("place of ill-formed text is the piece's end", ill_formed, |c| c.answer[PLACE] = c.answer[PIECE_TO]),
     act("place of ill-formed text is that of the refusal before", ill_formed, |c| c.answer[PLACE] = c.last_place),

@@ -25,7 +25,7 @@ const AROUND: &[(&[u8], &[u8])] = &[
 
 fn put(around: usize, middle: &[u8], settings: &[u8], sink: &mut dyn Sink) -> Flow {
     let (before, behind) = AROUND[around];
-    let mut room = [0; 32];
+    let mut room = [0; 48];
     let ends = [before.len(), before.len() + middle.len(), before.len() + middle.len() + behind.len()];
     room[..ends[0]].copy_from_slice(before);
     room[ends[0]..ends[1]].copy_from_slice(middle);
@@ -72,5 +72,43 @@ pub fn families(amount: Amount) -> Vec<Family> {
         }
         ON
     });
-    vec![two, three, four, leads]
+    vec![two, three, four, leads, behind_characters()]
+}
+
+/// Characters of each length, and all of them.
+const CHARACTERS: &[&[u8]] = &[b"", b"a", b"\xC3\xA9", b"\xE2\x82\xAC", b"\xF0\x9F\x9A\x86", b"\xF0\x9F\x9A\x86\xE2\x82\xACa\xC3\xA9"];
+
+/// Sequences that are no character: a byte that begins none, one too long, a surrogate, one beyond the last, and characters cut off after each byte.
+const ILL: &[&[u8]] = &[
+    b"\x80",
+    b"\xBF\xBF",
+    b"\xFF",
+    b"\xC0\x80",
+    b"\xC1\xBF",
+    b"\xE0\x9F\xBF",
+    b"\xED\xA0\x80",
+    b"\xF0\x8F\xBF\xBF",
+    b"\xF4\x90\x80\x80",
+    b"\xF5\x80\x80\x80",
+    b"\xC3",
+    b"\xE2",
+    b"\xE2\x82",
+    b"\xF0",
+    b"\xF0\x9F",
+    b"\xF0\x9F\x9A",
+];
+
+/// In every kind of piece, with characters and other such sequences around them, so that the first of them counts.
+fn behind_characters() -> Family {
+    let settings = [DEFAULT, !DEFAULT, DEFAULT | TRIM_START | COMMENTS];
+    Family::new("ill-formed sequences behind characters", AROUND.len() * ILL.len(), move |job, sink| {
+        let (around, ill) = (job / ILL.len(), ILL[job % ILL.len()]);
+        for before in CHARACTERS {
+            for behind in CHARACTERS.iter().chain(ILL) {
+                put(around, &[before, ill, behind].concat(), &settings, sink)?;
+                put(around, &[b" \n", *before, ill, behind].concat(), &settings, sink)?;
+            }
+        }
+        ON
+    })
 }

@@ -1,8 +1,8 @@
 -- Which comments a call refuses, and where, in the words of documents 01 and 02. Any document, any lent stack, any state. Assumes nothing.
 use Prim.Native.Nat.{ℕ}
-use mathlib.Core.Path.{_≡_, refl, sym, subst}
+use mathlib.Core.Path.{_≡_}
 use mathlib.Core.List.{List}
-use mathlib.Core.Bool.{Bool, true, false}
+use mathlib.Core.Bool.{true}
 use mathlib.Core.Logic.{_↔_, _⊎_, inl, inr}
 use native.Mathlib.Omega.{arith}
 use borrow.Author.Tests.{eqb-true}
@@ -14,10 +14,9 @@ use Rattle.state.specs.Make.{badState}
 use Rattle.state.specs.Place.{inner}
 use Rattle.state.specs.Values.{kindNumber, valuesOf}
 use Rattle.emit.specs.Bang.{TwoHyphens, FirstPair}
-use Rattle.reader.specs.Sound.{sound}
 use Rattle.reader.specs.Step.{step}
 use Rattle.reader.proofs.Outside.{Commented, step-turn}
-use Rattle.reader.proofs.Rooms.{bad-step}
+use Rattle.reader.proofs.Rooms.{any-state}
 use Rattle.demands.specs.Answers.{isComment, isDoubleHyphen}
 
 module _ (doc stack : List ℕ) (r : Reader) where
@@ -30,11 +29,7 @@ module _ (doc stack : List ℕ) (r : Reader) where
   of-bad = record { refused = λ e. absurd (omega arith); passed = λ e. absurd (omega arith) }
 
   says : Commented doc r answer
-  says = by (sound doc stack r) refl
-    where
-      by : (t : Bool) → sound doc stack r ≡ t → Commented doc r answer
-      by true e = step-turn doc stack r e .comment
-      by false e = subst (λ (s : Step). Commented doc r (s .answer)) (sym (bad-step doc stack r e)) of-bad
+  says = any-state doc stack r (λ (s : Step). Commented doc r (s .answer)) (λ e. step-turn doc stack r e .comment) of-bad
 
   -- what 9 says
   nine : isDoubleHyphen answer ≡ true → (r .settings .«check_comments» ≡ true) × FirstPair doc (inner (valuesOf answer .piece) 4 3) (valuesOf answer .place)

@@ -84,7 +84,7 @@ module _ (doc stack : List ℕ) (c : Config) (short : length doc ≤ longest) wh
   abbrev after : ℕ → World
   after n = run doc stack c n
 
-  turn : (n : ℕ) → Turned doc (capacity (length (after n .stack))) (newest (after n)) (after n .reader) (step doc (after n .stack) (after n .reader))
+  pub turn : (n : ℕ) → Turned doc (capacity (length (after n .stack))) (newest (after n)) (after n .reader) (step doc (after n .stack) (after n .reader))
   turn n = held-turn doc c short (after n) (run-held doc c short stack n)
 
   -- THEOREM: every state of a run is sound
@@ -148,11 +148,11 @@ module _ (doc stack : List ℕ) (c : Config) (short : length doc ≤ longest) wh
     unfolding step stepPhase
     done-step = rw (every-state-is-sound n, done)
 
-    done-says : isEof (said doc (after n)) ≡ true
+    pub done-says : isEof (said doc (after n)) ≡ true
     unfolding ended told
     done-says = ap (λ (s : Step). isEof (s .answer)) done-step
 
-    done-reader : after (suc n) .reader ≡ after n .reader
+    pub done-reader : after (suc n) .reader ≡ after n .reader
     unfolding run call ended told
     done-reader = ap (λ (s : Step). s .reader) done-step ∙ still (after n .reader) done
 

@@ -2,6 +2,7 @@ pub mod Clauses
 pub mod Comments
 pub mod Demand1
 pub mod Demand3
+pub mod Encoding
 pub mod Growing
 pub mod Held
 pub mod Joined

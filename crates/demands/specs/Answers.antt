@@ -41,6 +41,10 @@ isMismatch a = eqb (valuesOf a .number) 10
 abbrev pub isUnmatched : Answer → Bool
 isUnmatched a = eqb (valuesOf a .number) 11
 
+-- 13: "Encoding"
+abbrev pub isEncoding : Answer → Bool
+isEncoding a = eqb (valuesOf a .number) 13
+
 -- 17: "bad state"
 abbrev pub isBadState : Answer → Bool
 isBadState a = eqb (valuesOf a .number) 17

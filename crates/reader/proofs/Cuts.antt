@@ -1,6 +1,6 @@
--- What a cut at a place gives: a piece that starts there and ends in the document, where its next phase may stand; or a refusal of bytes that start
--- there. Assumes nothing.
-use Prim.Native.Nat.{ℕ, _+_, _≤_, _<_}
+-- What a cut at a place gives: a piece that starts there and ends in the document, where its next phase may stand and no character goes across; or a refusal
+-- of bytes that start there. Assumes nothing.
+use Prim.Native.Nat.{ℕ, _+_, _-_, _≤_, _<_}
 use mathlib.Core.Path.{_≡_, refl, ap}
 use mathlib.Core.List.{List, _∷_}
 use mathlib.Core.Logic.{inl, inr}
@@ -8,12 +8,13 @@ use native.Mathlib.Omega.{arith}
 use lib.ListN.{length, drop, getD}
 use lib.Dec.{eqb, leb}
 use borrow.Author.Tests.{eqb-true, eqb-false}
-use Rattle.ground.specs.Bytes.{amp, bang, hyphen, lowerD, lt, openBracket, question, semicolon, slash, upperD}
+use Rattle.ground.specs.Bytes.{amp, bang, gt, hyphen, lowerD, lt, openBracket, question, semicolon, slash, upperD}
 use Rattle.ground.specs.Equal.{begins}
 use Rattle.ground.proofs.Choices.{pick-cases}
 use Rattle.ground.proofs.First.{found-has}
-use Rattle.ground.proofs.Lists.{stands-in}
+use Rattle.ground.proofs.Lists.{byte-past, stands-in}
 use Rattle.white.specs.White.{isWhite}
+use Rattle.utf8.proofs.Places.{Border}
 use Rattle.parser.specs.Element.{elementFound}
 use Rattle.parser.specs.First.{textFound, referenceFound, Among, textEnds, referenceEnds}
 use Rattle.parser.specs.Marks.{piFound, commentFound, cdataFound}
@@ -72,9 +73,9 @@ Lands doc to Phase.Done = Unit {0}
 abbrev pub Plain : ℕ → Type 0
 Plain n = (n ≡ 10 → ⊥) × (n ≡ 11 → ⊥) × (n ≡ 16 → ⊥) × (n ≡ 17 → ⊥)
 
--- an error with such a number, and not 9, which is for comments
+-- an error with such a number, and neither 9 nor 13, which tell places of their own
 abbrev pub PlainError : Error → Type 0
-PlainError e = Plain (numberedOf e .number) × (numberedOf e .number ≡ 9 → ⊥)
+PlainError e = Plain (numberedOf e .number) × (numberedOf e .number ≡ 9 → ⊥) × (numberedOf e .number ≡ 13 → ⊥)
 
 -- a span from `from` on, in the document
 pub record Lies (doc : List ℕ) (from : ℕ) (s : Span) : Type 0 where
@@ -88,6 +89,7 @@ pub record CutOff (doc : List ℕ) (from : ℕ) (p : Piece) : Type 0 where
   pub moves : from + fewest (p .shape) ≤ p .span .to
   pub opens : Opens doc from (p .shape)
   pub lands : Lands doc (p .span .to) (p .next)
+  pub border : Border doc (p .span .to)
 
 -- a refusal of what starts at `from`
 pub record Halted (doc : List ℕ) (from : ℕ) (x : Refusal) : Type 0 where
@@ -109,6 +111,17 @@ phase-lands doc end among =
     other : (getD doc end 0 ≡ lt → ⊥) → Among textEnds (getD doc end 0) → getD doc end 0 ≡ amp
     other n (inl h) = absurd (n h)
     other n (inr (inl h)) = h
+
+-- where a text or a dangling reference ends, and where any other piece does
+text-border : (doc : List ℕ) (end : ℕ) → Among textEnds (getD doc end 0) → Border doc end
+text-border doc end (inl e) = inl (omega arith)
+text-border doc end (inr (inl e)) = inl (omega arith)
+
+last-border : (doc : List ℕ) → Border doc (length doc)
+last-border doc = inl (omega (arith, byte-past doc (length doc) (omega arith)))
+
+closed-border : (doc : List ℕ) (p : ℕ) → getD doc p 0 ≤ 0x7F → Border doc (p + 1)
+closed-border doc p h = let back : p + 1 - 1 ≡ p = omega arith in inr (rw back h)
 
 unclosed-tag : (found : TagFound) → PlainError (unclosedTag found)
 unfolding unclosedTag
@@ -132,9 +145,9 @@ module _ (doc : List ℕ) (from : ℕ) where
   abbrev Here : Cut → Type 0
   Here = CutAt doc from
 
-  whole-cut : (shape : Shape) (to : ℕ) (next : Phase) → from ≤ to → to ≤ length doc → from + fewest shape ≤ to → Opens doc from shape → Lands doc to next → Here (whole shape from to next)
+  whole-cut : (shape : Shape) (to : ℕ) (next : Phase) → from ≤ to → to ≤ length doc → from + fewest shape ≤ to → Opens doc from shape → Lands doc to next → Border doc to → Here (whole shape from to next)
   unfolding whole
-  whole-cut shape to next h k m o l = record { lies = record { starts = refl; ends = h; within = k }; moves = m; opens = o; lands = l }
+  whole-cut shape to next h k m o l b = record { lies = record { starts = refl; ends = h; within = k }; moves = m; opens = o; lands = l; border = b }
 
   stop-cut : (error : Error) (left : ℕ) → from ≤ left → left ≤ length doc → PlainError error → Here (stop error from left)
   unfolding stop
@@ -147,8 +160,8 @@ module _ (doc : List ℕ) (from : ℕ) where
         first-cases Here (textFound doc from) _ _
         (λ p e. let t = found-has FirstFound.At _ _ (text-gives doc from) (textFound doc from) p refl e in
         let o : from ≡ p → ⊥ = λ z. here (rw z (t .among)) in
-        whole-cut Shape.Text p (phaseAt doc p) (t .after) (omega (arith, t)) (omega (arith, t .after)) tt (phase-lands doc p (t .among)))
-        (λ _. whole-cut Shape.LastText (length doc) Phase.Done h (omega arith) (omega arith) tt tt)
+        whole-cut Shape.Text p (phaseAt doc p) (t .after) (omega (arith, t)) (omega (arith, t .after)) tt (phase-lands doc p (t .among)) (text-border doc p (t .among)))
+        (λ _. whole-cut Shape.LastText (length doc) Phase.Done h (omega arith) (omega arith) tt tt (last-border doc))
       where
         here : Among textEnds (getD doc from 0) → ⊥
         here (inl e) = l e
@@ -161,18 +174,20 @@ module _ (doc : List ℕ) (from : ℕ) where
         first-cases Here (referenceFound doc from) _ _
         (λ p e. let t = found-has FirstFound.At _ _ (reference-gives doc from) (referenceFound doc from) p refl e in
         pick-cases Here (eqb (getD doc p 0) semicolon) _ _
-        (λ _. whole-cut Shape.GeneralRef (p + 1) Phase.InsideText (omega (arith, t)) (omega (arith, t)) (omega (arith, t)) tt tt)
-        (λ n. whole-cut Shape.Dangling p (phaseAt doc p) (omega (arith, t)) (omega (arith, t)) (omega (arith, t)) tt (phase-lands doc p (not-first (eqb-false _ _ n) (t .among)))))
-        (λ _. whole-cut Shape.Dangling (length doc) Phase.Done h (omega arith) (omega arith) tt tt)
+        (λ y. whole-cut Shape.GeneralRef (p + 1) Phase.InsideText (omega (arith, t)) (omega (arith, t)) (omega (arith, t)) tt tt (closed-border doc p (omega (arith, eqb-true (getD doc p 0) semicolon y))))
+        (λ n. let among = not-first (eqb-false _ _ n) (t .among) in
+        whole-cut Shape.Dangling p (phaseAt doc p) (omega (arith, t)) (omega (arith, t)) (omega (arith, t)) tt (phase-lands doc p among) (text-border doc p among)))
+        (λ _. whole-cut Shape.Dangling (length doc) Phase.Done h (omega arith) (omega arith) tt tt (last-border doc))
       where
         not-first : {b : ℕ} → (b ≡ semicolon → ⊥) → Among referenceEnds b → Among textEnds b
         not-first n (inl e) = absurd (n e)
         not-first n (inr (inl e)) = inr (inl e)
         not-first n (inr (inr (inl e))) = inl e
 
-    -- a piece up to the byte at p, which was found
-    closed : (shape : Shape) (p : ℕ) → from + fewest shape ≤ p + 1 → p < length doc → Opens doc from shape → Here (whole shape from (p + 1) Phase.InsideText)
-    closed shape p m t o = whole-cut shape (p + 1) Phase.InsideText (omega arith) (omega arith) m o tt
+    -- a piece up to the `>` at p, which was found
+    closed : (shape : Shape) (p : ℕ) → from + fewest shape ≤ p + 1 → p < length doc → getD doc p 0 ≡ gt → Opens doc from shape
+        → Here (whole shape from (p + 1) Phase.InsideText)
+    closed shape p m t g o = whole-cut shape (p + 1) Phase.InsideText (omega arith) (omega arith) m o tt (closed-border doc p (omega arith))
 
     unclosed : (error : Error) → PlainError error → Here (stop error from (length doc))
     unclosed error p = stop-cut error (length doc) h (omega arith) p
@@ -189,13 +204,13 @@ module _ (doc : List ℕ) (from : ℕ) where
           tag-cases Here (elementFound doc from) _ _
           (λ p e. let t = found-has TagFound.At _ _ (element-gives doc from) (elementFound doc from) p refl e in
           let apart : from ≡ p → ⊥ = λ z. omega (arith, t .closes, ap (λ (k : ℕ). getD doc k 0) z) in
-          closed shape p (omega (arith, t .after)) (t .within) o)
+          closed shape p (omega (arith, t .after)) (t .within) (t .closes) o)
           (unclosed _ (unclosed-tag (elementFound doc from)))
 
       marked-cut : (found : MarksFound) (shape : Shape) (error : Error) → fewest shape ≤ 1 → Opens doc from shape → PlainError error
-          → ((p : ℕ) → found ≡ MarksFound.At p → (from ≤ p) × (p < length doc)) → Here (cutMarked doc from found shape error)
+          → ((p : ℕ) → found ≡ MarksFound.At p → (from ≤ p) × (p < length doc) × (getD doc p 0 ≡ gt)) → Here (cutMarked doc from found shape error)
       unfolding cutMarked
-      marked-cut found shape error f o q w = marks-cases Here found _ _ (λ p e. closed shape p (omega (arith, w p e .0)) (w p e .1) o) (unclosed error q)
+      marked-cut found shape error f o q w = marks-cases Here found _ _ (λ p e. closed shape p (omega (arith, w p e .0)) (w p e .1) (w p e .2) o) (unclosed error q)
 
       bang-cut : (third : ℕ) → Here (cutBang doc from third)
       unfolding cutBang
@@ -216,7 +231,7 @@ module _ (doc : List ℕ) (from : ℕ) where
       unfolding cutQuestion
       question-cut =
           marks-cases Here (piFound doc from) _ _
-          (λ p e. let t = found-has MarksFound.At _ _ (pi-gives doc from) (piFound doc from) p refl e in closed Shape.QuestionMark p (omega (arith, t)) (omega (arith, t)) l)
+          (λ p e. let t = found-has MarksFound.At _ _ (pi-gives doc from) (piFound doc from) p refl e in closed Shape.QuestionMark p (omega (arith, t)) (omega (arith, t)) (t .closes) l)
           (unclosed _ (unclosed-question doc from))
 
       pub markup-cut : Here (cutMarkup doc from)

@@ -1,5 +1,6 @@
 pub mod Cuts
 pub mod Once
+pub mod Passed
 pub mod Outside
 pub mod Rooms
 pub mod States

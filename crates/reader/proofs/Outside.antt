@@ -16,8 +16,10 @@ use Rattle.ground.proofs.Equal.{begins-long, same-is}
 use Rattle.ground.proofs.Lists.{part-end}
 use Rattle.white.specs.White.{isWhite, notWhite, nameLen}
 use Rattle.white.proofs.Runs.{until-within}
-use Rattle.utf8.specs.Utf8.{check, byUtf8}
+use Rattle.utf8.specs.Utf8.{check, byUtf8, Octets}
 use Rattle.utf8.specs.declared.Utf8.{Utf8}
+use Rattle.utf8.proofs.Rfc.{well-formed}
+use Rattle.utf8.proofs.Places.{octets-nothing, octets-parts, ill-here, ill-first}
 use Rattle.parser.specs.Hyphens.{pairFound}
 use Rattle.parser.proofs.Cases.{first-cases}
 use Rattle.parser.proofs.Words.{pair-first, pair-behind, pair-nowhere}
@@ -48,8 +50,9 @@ use Rattle.reader.specs.declared.piece.Piece.{Piece}
 use Rattle.reader.specs.declared.piece.Cut.{Cut}
 use Rattle.reader.specs.Names.{latest, nameOf, bytes}
 use Rattle.reader.specs.Sound.{inPlaceIn, inPlace, sound}
-use Rattle.reader.specs.Step.{emittedAs, emitted, checked, taken, skipped, stepText, bom, begin, stepIn, stepPhase, step}
+use Rattle.reader.specs.Step.{emittedAs, emitted, checked, taken, skipped, stepText, bom, begin, stepIn, stepPhase, step, FirstIll}
 use Rattle.reader.proofs.Cuts.{fewest, Opens, Lands, Plain, PlainError, Lies, CutOff, CutAt, next-cut, markup-cut, ref-cut}
+use Rattle.reader.proofs.Passed.{white-octets, begin-octets}
 use Rattle.reader.proofs.States.{sound-true, markup-at, ref-at}
 
 -- ---- what there is to see
@@ -95,6 +98,14 @@ pub record Commented (doc : List ℕ) (r : Reader) (a : Answer) : Type 0 where
   pub refused : valuesOf a .number ≡ 9 → (r .settings .«check_comments» ≡ true) × FirstPair doc (inner (valuesOf a .piece) 4 3) (valuesOf a .place)
   pub passed : valuesOf a .kind ≡ kindNumber Kind.Comment → r .settings .«check_comments» ≡ true → TwoHyphens doc (inner (valuesOf a .piece) 4 3) → ⊥
 
+-- what a call says of UTF-8: what it passes over before its piece is well formed, and so is the piece of an event, and any after which reading goes on; 13 is
+-- told at the first ill-formed byte of its piece
+pub record Encoded (doc : List ℕ) (r : Reader) (s : Step) : Type 0 where
+  pub passed : Octets (part doc (r .position .0) (valuesOf (s .answer) .piece .from))
+  pub event : 0 < valuesOf (s .answer) .kind → Octets (bytes doc (valuesOf (s .answer) .piece))
+  pub going : (s .reader .phase ≡ Phase.Done → ⊥) → Octets (bytes doc (valuesOf (s .answer) .piece))
+  pub ill : valuesOf (s .answer) .number ≡ 13 → FirstIll doc (valuesOf (s .answer) .piece) (valuesOf (s .answer) .place)
+
 pub record Turned (doc : List ℕ) (cap : ℕ) (last : Span) (r : Reader) (s : Step) : Type 0 where
   pub size : s .reader .length ≡ r .length
   pub settings : s .reader .settings ≡ r .settings
@@ -108,19 +119,22 @@ pub record Turned (doc : List ℕ) (cap : ℕ) (last : Span) (r : Reader) (s : S
   pub over : valuesOf (s .answer) .kind ≡ kindNumber Kind.Eof → s .reader .phase ≡ Phase.Done
   pub names : Named doc cap last r s
   pub comment : Commented doc r (s .answer)
+  pub encoding : Encoded doc r s
 
 -- ---- the two ways to answer
 
--- a piece that starts after what was read and ends in the document
+-- a piece that starts after what was read and ends in the document, what is passed over before it being well formed
 record Fits (doc : List ℕ) (r : Reader) (piece : Span) : Type 0 where
   pub after : r .position .0 ≤ piece .from
   pub ordered : piece .from ≤ piece .to
   pub within : piece .to ≤ length doc
+  pub passed : Octets (part doc (r .position .0) (piece .from))
 
--- one with bytes, where the reader is not done
+-- a well-formed one with bytes, where the reader is not done
 record Some (doc : List ℕ) (r : Reader) (piece : Span) : Type 0 where
   pub has : piece .from < piece .to
   pub near : length doc - piece .from + 1 ≤ rank doc r
+  pub whole : Octets (bytes doc piece)
 
 -- a kind of event that says nothing of names, and is neither Eof nor a Comment
 abbrev Silent : Kind → Type 0
@@ -134,9 +148,11 @@ Silent k =
 abbrev Unpaired : List ℕ → Reader → Span → Kind → Type 0
 Unpaired doc r piece k = kindNumber k ≡ kindNumber Kind.Comment → r .settings .«check_comments» ≡ true → TwoHyphens doc (inner piece 4 3) → ⊥
 
--- and of a refusal that is 9
-abbrev Paired : List ℕ → Reader → Span → Error → Position → Type 0
-Paired doc r piece error place = numberedOf error .number ≡ 9 → (r .settings .«check_comments» ≡ true) × FirstPair doc (inner piece 4 3) (place .0)
+-- and of a refusal that is 9 or 13
+abbrev Placed : List ℕ → Reader → Span → Error → Position → Type 0
+Placed doc r piece error place =
+    (numberedOf error .number ≡ 9 → (r .settings .«check_comments» ≡ true) × FirstPair doc (inner piece 4 3) (place .0))
+    × (numberedOf error .number ≡ 13 → FirstIll doc piece (place .0))
 
 -- the same reader but for phase, position and depth
 record Like (r b : Reader) : Type 0 where
@@ -184,10 +200,10 @@ module _ (doc : List ℕ) (cap : ℕ) (last : Span) (r : Reader) (piece : Span) 
   Names = Named doc cap last r
 
   told-turn : (b : Reader) (kind : Kind) (content : Span) (name : ℕ) (next : Phase) → Like r b → Next doc r b (piece .to) next
-      → (kindNumber kind ≡ kindNumber Kind.Eof → next ≡ Phase.Done) → Unpaired doc r piece kind
+      → Octets (bytes doc piece) → (kindNumber kind ≡ kindNumber Kind.Eof → next ≡ Phase.Done) → Unpaired doc r piece kind
       → Names (told b (event kind piece content name) next) → Turn (told b (event kind piece content name) next)
   unfolding told moved inPlace
-  told-turn b kind content name next l n o u k =
+  told-turn b kind content name next l n w o u k =
       record {
         size = l .size;
         settings = l .settings;
@@ -200,12 +216,13 @@ module _ (doc : List ℕ) (cap : ℕ) (last : Span) (r : Reader) (piece : Span) 
         over = o;
         names = k;
         comment = record { refused = λ e. absurd (omega arith); passed = u };
+        encoding = record { passed = f .passed; event = λ _. w; going = λ _. w; ill = λ e. absurd (omega arith) };
       }
 
-  refused-turn : (b : Reader) (error : Error) (place : Position) (next : Phase) → Like r b → Next doc r b (piece .to) next → Paired doc r piece error place
-      → Names (refused b error place piece next) → Turn (refused b error place piece next)
+  refused-turn : (b : Reader) (error : Error) (place : Position) (next : Phase) → Like r b → Next doc r b (piece .to) next
+      → ((next ≡ Phase.Done → ⊥) → Octets (bytes doc piece)) → Placed doc r piece error place → Names (refused b error place piece next) → Turn (refused b error place piece next)
   unfolding refused moved inPlace
-  refused-turn b error place next l n p k =
+  refused-turn b error place next l n w p k =
       record {
         size = l .size;
         settings = l .settings;
@@ -217,7 +234,8 @@ module _ (doc : List ℕ) (cap : ℕ) (last : Span) (r : Reader) (piece : Span) 
         falls = n .falls;
         over = λ e. absurd (omega arith);
         names = k;
-        comment = record { refused = p; passed = λ e. absurd (omega arith) };
+        comment = record { refused = p .0; passed = λ e. absurd (omega arith) };
+        encoding = record { passed = f .passed; event = λ e. absurd (omega arith); going = w; ill = p .1 };
       }
 
   -- the phases that come next
@@ -240,50 +258,50 @@ module _ (doc : List ℕ) (cap : ℕ) (last : Span) (r : Reader) (piece : Span) 
 
   -- ---- an answer that says nothing of names
 
-  told-quiet : (kind : Kind) (content : Span) (name : ℕ) (next : Phase) → Next doc r r (piece .to) next → Silent kind
+  told-quiet : (kind : Kind) (content : Span) (name : ℕ) (next : Phase) → Next doc r r (piece .to) next → Octets (bytes doc piece) → Silent kind
       → Turn (told r (event kind piece content name) next)
   unfolding told moved
-  told-quiet kind content name next n q =
-      told-turn r kind content name next (like-itself r) n (λ e. absurd (q .2 e)) (λ e. absurd (q .3 e)) (keeps (q .0, q .1, omega arith) refl)
+  told-quiet kind content name next n w q =
+      told-turn r kind content name next (like-itself r) n w (λ e. absurd (q .2 e)) (λ e. absurd (q .3 e)) (keeps (q .0, q .1, omega arith) refl)
 
-  refused-quiet : (error : Error) (place : Position) (next : Phase) → Next doc r r (piece .to) next → PlainError error
-      → Turn (refused r error place piece next)
+  refused-quiet : (error : Error) (place : Position) (next : Phase) → Next doc r r (piece .to) next → ((next ≡ Phase.Done → ⊥) → Octets (bytes doc piece))
+      → PlainError error → Turn (refused r error place piece next)
   unfolding refused moved
-  refused-quiet error place next n p =
-      refused-turn r error place next (like-itself r) n (λ e. absurd (p .1 e)) (keeps (λ e. omega arith, λ e. omega arith, p .0) refl)
+  refused-quiet error place next n w p =
+      refused-turn r error place next (like-itself r) n w (λ e. absurd (p .1 e), λ e. absurd (p .2 e)) (keeps (λ e. omega arith, λ e. omega arith, p .0) refl)
 
   stopped-quiet : (error : Error) (place : Position) → PlainError error → Turn (stopped r error place piece)
   unfolding stopped
-  stopped-quiet error place p = refused-quiet error place Phase.Done (to-done r) p
+  stopped-quiet error place p = refused-quiet error place Phase.Done (to-done r) (λ n. absurd (n refl)) p
 
-  ended-quiet : Turn (ended r piece)
+  ended-quiet : Octets (bytes doc piece) → Turn (ended r piece)
   unfolding ended told moved
-  ended-quiet = told-turn r Kind.Eof _ 0 Phase.Done (like-itself r) (to-done r) (λ _. refl) (λ e. absurd (omega arith)) (keeps (omega arith) refl)
+  ended-quiet w = told-turn r Kind.Eof _ 0 Phase.Done (like-itself r) (to-done r) w (λ _. refl) (λ e. absurd (omega arith)) (keeps (omega arith) refl)
 
   -- ---- text, references, comments, CDATA, processing instructions
 
-  last-turn : Turn (emitLastText doc r piece)
+  last-turn : Octets (bytes doc piece) → Turn (emitLastText doc r piece)
   unfolding emitLastText emitText
-  last-turn =
+  last-turn w =
       pick-cases Turn (eqb (size (textContent doc (r .settings) piece)) 0) _ _
-      (λ _. ended-quiet)
-      (λ _. told-quiet Kind.Text _ 0 Phase.Done (to-done r) (omega arith))
+      (λ _. ended-quiet w)
+      (λ _. told-quiet Kind.Text _ 0 Phase.Done (to-done r) w (omega arith))
 
   module _ (some : Some doc r piece) where
     text-turn : (next : Phase) → Lands doc (piece .to) next → Turn (emitText doc r piece next)
     unfolding emitText
-    text-turn next l = told-quiet Kind.Text _ 0 next (to-next some r next l) (omega arith)
+    text-turn next l = told-quiet Kind.Text _ 0 next (to-next some r next l) (some .whole) (omega arith)
 
     dangling-turn : (next : Phase) → Lands doc (piece .to) next → Turn (emitDangling r piece next)
     unfolding emitDangling
     dangling-turn next l =
         pick-cases Turn (r .settings .«allow_dangling_amp») _ _
-        (λ _. told-quiet Kind.Text piece 0 next (to-next some r next l) (omega arith))
-        (λ _. refused-quiet Error.UnclosedReference _ next (to-next some r next l) (omega arith))
+        (λ _. told-quiet Kind.Text piece 0 next (to-next some r next l) (some .whole) (omega arith))
+        (λ _. refused-quiet Error.UnclosedReference _ next (to-next some r next l) (λ _. some .whole) (omega arith))
 
     -- an event after which text goes on
     plain-turn : (kind : Kind) (content : Span) (name : ℕ) → Silent kind → Turn (told r (event kind piece content name) Phase.InsideText)
-    plain-turn kind content name q = told-quiet kind content name Phase.InsideText (to-text some r) q
+    plain-turn kind content name q = told-quiet kind content name Phase.InsideText (to-text some r) (some .whole) q
 
     ref-turn : Turn (emitRef r piece)
     unfolding emitRef
@@ -297,7 +315,7 @@ module _ (doc : List ℕ) (cap : ℕ) (last : Span) (r : Reader) (piece : Span) 
     remark-turn : (content : Span) → (r .settings .«check_comments» ≡ true → TwoHyphens doc (inner piece 4 3) → ⊥) → Turn (bangEvent r Kind.Comment piece content)
     unfolding bangEvent told moved
     remark-turn content u =
-        told-turn r Kind.Comment content 0 Phase.InsideText (like-itself r) (to-text some r) (λ e. absurd (omega arith)) (λ _. u) (keeps (omega arith) refl)
+        told-turn r Kind.Comment content 0 Phase.InsideText (like-itself r) (to-text some r) (some .whole) (λ e. absurd (omega arith)) (λ _. u) (keeps (omega arith) refl)
 
     -- one whose hyphens are looked for
     checked-turn : r .settings .«check_comments» ≡ true → Turn (checkedComment doc r piece (inner piece 4 3))
@@ -308,8 +326,8 @@ module _ (doc : List ℕ) (cap : ℕ) (last : Span) (r : Reader) (piece : Span) 
         first-cases Turn (pairFound doc from) _ _
         (λ p e. pick-cases Turn (ltb to p) _ _
         (λ t. remark-turn _ (λ _ h. pair-behind doc from to p e (ltb-true to p t) (h .0) (h .1)))
-        (λ t. refused-turn r Error.DoubleHyphenInComment _ Phase.InsideText (like-itself r) (to-text some r)
-        (λ _. (on, pair-first doc from to p e (ltb-false to p t))) (keeps (omega arith) refl)))
+        (λ t. refused-turn r Error.DoubleHyphenInComment _ Phase.InsideText (like-itself r) (to-text some r) (λ _. some .whole)
+        (λ _. (on, pair-first doc from to p e (ltb-false to p t)), λ e. absurd (omega arith)) (keeps (omega arith) refl)))
         (λ e. remark-turn _ (λ _ h. pair-nowhere doc from to e (h .0) (h .1)))
 
     comment-turn : Turn (emitComment doc r piece)
@@ -340,20 +358,21 @@ module _ (doc : List ℕ) (cap : ℕ) (last : Span) (r : Reader) (piece : Span) 
     module _ (name : Span) where
       stray-turn : r .depth .0 ≡ 0 → r .settings .«allow_unmatched_ends» ≡ true → Turn (endEvent r piece name)
       unfolding endEvent told moved
-      stray-turn z on = told-turn r Kind.End name _ Phase.InsideText (like-itself r) (to-text some r) (λ e. absurd (omega arith)) (λ e. absurd (omega arith)) (closes-nothing refl z z on)
+      stray-turn z on = told-turn r Kind.End name _ Phase.InsideText (like-itself r) (to-text some r) (some .whole) (λ e. absurd (omega arith)) (λ e. absurd (omega arith)) (closes-nothing refl z z on)
 
       unmatched-turn : r .depth .0 ≡ 0 → Turn (unmatched r piece name)
       unfolding unmatched refused moved
       unmatched-turn z =
           pick-cases Turn (r .settings .«allow_unmatched_ends») _ _
           (λ on. stray-turn z on)
-          (λ off. refused-turn r (Error.UnmatchedEndTag name) _ Phase.InsideText (like-itself r) (to-text some r) (λ e. absurd (omega arith)) (unmatches refl z z off))
+          (λ off. refused-turn r (Error.UnmatchedEndTag name) _ Phase.InsideText (like-itself r) (to-text some r) (λ _. some .whole)
+          (λ e. absurd (omega arith), λ e. absurd (omega arith)) (unmatches refl z z off))
 
       -- b has one name fewer
       module _ (z : 0 < r .depth .0) (b : Reader) (l : Like r b) (d : b .depth .0 ≡ r .depth .0 - 1) where
         end-turn : (r .settings .«check_end_names» ≡ true → bytes doc name ≡ bytes doc last) → Turn (endEvent b piece name)
         unfolding endEvent told moved
-        end-turn same = told-turn b Kind.End name _ Phase.InsideText l (to-text some b) (λ e. absurd (omega arith)) (λ e. absurd (omega arith)) (closes refl z d same)
+        end-turn same = told-turn b Kind.End name _ Phase.InsideText l (to-text some b) (some .whole) (λ e. absurd (omega arith)) (λ e. absurd (omega arith)) (closes refl z d same)
 
         matched-turn : Turn (matched doc b last piece name)
         unfolding matched refused moved
@@ -361,7 +380,7 @@ module _ (doc : List ℕ) (cap : ℕ) (last : Span) (r : Reader) (piece : Span) 
             let on = ap (λ (c : Config). c .«check_end_names») (l .settings) in
             pick-cases Turn (differs doc (b .settings) last name) _ _
             (λ e. let x = disagrees doc (b .settings) last name e in
-            refused-turn _ (Error.MismatchedEndTag last name) _ Phase.InsideText l (to-text some _) (λ e. absurd (omega arith))
+            refused-turn _ (Error.MismatchedEndTag last name) _ Phase.InsideText l (to-text some _) (λ _. some .whole) (λ e. absurd (omega arith), λ e. absurd (omega arith))
             (mismatches refl z d (sym on ∙ x .0) refl (x .1)))
             (λ e. end-turn (λ h. agrees doc (b .settings) last name e (on ∙ h)))
 
@@ -388,7 +407,7 @@ module _ (doc : List ℕ) (cap : ℕ) (last : Span) (r : Reader) (piece : Span) 
             → Turn (told b (event Kind.Start piece content (nameLen (bytes doc content))) next)
         unfolding told moved
         added-turn b l d room =
-            told-turn b Kind.Start content _ next l (n b d) (λ e. absurd (omega arith)) (λ e. absurd (omega arith))
+            told-turn b Kind.Start content _ next l (n b d) (some .whole) (λ e. absurd (omega arith)) (λ e. absurd (omega arith))
             (opens refl room d (record { ordered = o; within = w; named = refl; opens = bracket; starts = first; expands = x }))
 
         opened-turn : Turn (opening r (depthOf cap) (tag doc Kind.Start piece content) next)
@@ -416,9 +435,10 @@ module _ (doc : List ℕ) (cap : ℕ) (last : Span) (r : Reader) (piece : Span) 
 -- ---- the call
 
 -- what holds of each case of the UTF-8 check holds of the choice by it
-utf8-cases : {A : Type 0} (M : A → Type 0) (u : Utf8) (a : A) (f : ℕ → A) → M a → ((p : ℕ) → M (f p)) → M (byUtf8 u a f)
-utf8-cases M Utf8.WellFormed a f g h = g
-utf8-cases M (Utf8.IllFormed p) a f g h = h p
+utf8-cases : {A : Type 0} (M : A → Type 0) (u : Utf8) (a : A) (f : ℕ → A) → (u ≡ Utf8.WellFormed → M a) → ((p : ℕ) → u ≡ Utf8.IllFormed p → M (f p))
+    → M (byUtf8 u a f)
+utf8-cases M Utf8.WellFormed a f g h = g refl
+utf8-cases M (Utf8.IllFormed p) a f g h = h p refl
 
 -- where text begins lies in the document
 begin-within : (doc : List ℕ) → begin doc ≤ length doc
@@ -433,10 +453,11 @@ record From (doc : List ℕ) (r : Reader) (from : ℕ) : Type 0 where
   pub after : r .position .0 ≤ from
   pub within : from ≤ length doc
   pub near : length doc - from + 1 ≤ rank doc r
+  pub passed : Octets (part doc (r .position .0) from)
 
 lies-fits : (doc : List ℕ) (r : Reader) (from : ℕ) (piece : Span) → From doc r from → Lies doc from piece → Fits doc r piece
 lies-fits doc r from piece f l =
-    record { after = omega (arith, f, l); ordered = omega (arith, l); within = l .within }
+    record { after = omega (arith, f, l); ordered = omega (arith, l); within = l .within; passed = rw (l .starts) (f .passed) }
 
 module _ (doc : List ℕ) (cap : ℕ) (last : Span) (r : Reader) where
   abbrev Turns : Step → Type 0
@@ -445,17 +466,24 @@ module _ (doc : List ℕ) (cap : ℕ) (last : Span) (r : Reader) where
   full-turn : (piece : Span) → Fits doc r piece → Turns (stopped r Error.NameStackFull (at (piece .from)) (span (piece .from) (piece .from)))
   full-turn piece f =
       stopped-quiet doc cap last r (span (piece .from) (piece .from))
-      (record { after = f .after; ordered = omega arith; within = omega (arith, f) })
+      (record { after = f .after; ordered = omega arith; within = omega (arith, f); passed = f .passed })
       Error.NameStackFull _ (omega arith)
 
-  module _ (piece : Span) (f : Fits doc r piece) (near : length doc - piece .from + 1 ≤ rank doc r) where
+  -- 13
+  ill-turn : (piece : Span) → Fits doc r piece → (p : ℕ) → FirstIll doc piece p → Turns (stopped r Error.Encoding (at p) piece)
+  unfolding stopped refused moved
+  ill-turn piece f p x =
+      refused-turn doc cap last r piece f r Error.Encoding (at p) Phase.Done (like-itself r) (to-done doc cap last r piece f r) (λ n. absurd (n refl))
+      (λ e. absurd (omega arith), λ _. x) (keeps (omega arith) refl)
+
+  module _ (piece : Span) (f : Fits doc r piece) (near : length doc - piece .from + 1 ≤ rank doc r) (whole : Octets (bytes doc piece)) where
     some : piece .from + 1 ≤ piece .to → Some doc r piece
-    some m = record { has = omega arith; near = near }
+    some m = record { has = omega arith; near = near; whole = whole }
 
     emitted-turn : (shape : Shape) (next : Phase) → piece .from + fewest shape ≤ piece .to → Opens doc (piece .from) shape → Lands doc (piece .to) next
         → Turns (emittedAs doc r last (depthOf cap) shape piece next)
     emitted-turn Shape.Text next m o l = text-turn doc cap last r piece f (some m) next l
-    emitted-turn Shape.LastText next m o l = last-turn doc cap last r piece f
+    emitted-turn Shape.LastText next m o l = last-turn doc cap last r piece f whole
     emitted-turn Shape.GeneralRef next m o l = ref-turn doc cap last r piece f (some m)
     emitted-turn Shape.Dangling next m o l = dangling-turn doc cap last r piece f (some m) next l
     emitted-turn Shape.Comment next m o l = comment-turn doc cap last r piece f (some m)
@@ -469,8 +497,10 @@ module _ (doc : List ℕ) (cap : ℕ) (last : Span) (r : Reader) where
   piece-turn from p f c =
       let fits : Fits doc r (p .span) = lies-fits doc r from _ f (c .lies) in
       utf8-cases Turns (check (p .span .from) (bytes doc (p .span))) _ _
-      (emitted-turn (p .span) fits (rw (c .lies .starts) (f .near)) (p .shape) (p .next) (rw (c .lies .starts) (c .moves)) (rw (c .lies .starts) (c .opens)) (c .lands))
-      (λ _. stopped-quiet doc cap last r (p .span) fits Error.Encoding _ (omega arith))
+      (λ e. emitted-turn (p .span) fits (rw (c .lies .starts) (f .near)) (well-formed (p .span .from) (bytes doc (p .span)) .0 e)
+      (p .shape) (p .next) (rw (c .lies .starts) (c .moves)) (rw (c .lies .starts) (c .opens)) (c .lands))
+      (λ ill e. ill-turn (p .span) fits ill
+      (ill-first doc (p .span .from) (p .span .to) (fits .within) ill (ill-here doc (p .span .from) (p .span .to) (fits .within) (c .border) (fits .ordered) ill e)))
 
   taken-turn : (from : ℕ) (c : Cut) → From doc r from → CutAt doc from c → Turns (taken doc r last (depthOf cap) c)
   unfolding taken
@@ -488,6 +518,8 @@ module _ (doc : List ℕ) (cap : ℕ) (last : Span) (r : Reader) where
         after = omega (arith, f);
         within = omega (arith, f, until-within notWhite (part doc from (length doc)), part-end doc from (length doc));
         near = omega (arith, f);
+        passed = octets-parts doc (r .position .0) from _ (f .after) (omega arith)
+            (omega (arith, until-within notWhite (part doc from (length doc)), part-end doc from (length doc), f .within)) (f .passed) (white-octets doc from (f .within));
       })
       (λ _. f)
 
@@ -496,15 +528,22 @@ module _ (doc : List ℕ) (cap : ℕ) (last : Span) (r : Reader) where
   text-from from f = let g = skip-from from f in taken-turn _ _ g (next-cut doc _ (g .within))
 
   module _ (in-doc : r .position .0 ≤ length doc) (ok : inPlace doc r ≡ true) where
+    -- the piece with no bytes where the reader stands
+    nothing : Octets (part doc (r .position .0) (r .position .0))
+    nothing = octets-nothing doc (r .position .0) in-doc
+
+    here : Fits doc r (span (r .position .0) (r .position .0))
+    here = record { after = omega arith; ordered = omega arith; within = in-doc; passed = nothing }
+
     -- where the reader stands, with a rank as in text
     stands : (p : Phase) → r .phase ≡ p → length doc - r .position .0 + 1 ≤ rankAt doc (r .position .0) p → From doc r (r .position .0)
-    stands p e h = record { after = omega arith; within = in-doc; near = rw e h }
+    stands p e h = record { after = omega arith; within = in-doc; near = rw e h; passed = nothing }
 
     from-start : r .phase ≡ Phase.Init → From doc r (begin doc)
     unfolding inPlace
     from-start e =
         let z : r .position .0 ≡ 0 = eqb-true _ _ (both _ _ (simp e at ok) .0) in
-        record { after = omega arith; within = begin-within doc; near = rw e (omega arith) }
+        record { after = omega arith; within = begin-within doc; near = rw e (omega arith); passed = rw z (begin-octets doc) }
 
     module _ (e : r .phase ≡ Phase.InsideEmpty) where
       -- b has one name fewer
@@ -512,8 +551,8 @@ module _ (doc : List ℕ) (cap : ℕ) (last : Span) (r : Reader) where
       unfolding endEvent told moved inPlace
       expanded-end b l d =
           let z : 0 < r .depth .0 = ltb-true _ _ (simp e at ok) in
-          told-turn doc cap last r (span (r .position .0) (r .position .0)) (record { after = omega arith; ordered = omega arith; within = in-doc }) b Kind.End last _
-          Phase.InsideText l (record { in-place = refl; falls = rw e (omega arith) }) (λ e. absurd (omega arith)) (λ e. absurd (omega arith))
+          told-turn doc cap last r (span (r .position .0) (r .position .0)) here b Kind.End last _
+          Phase.InsideText l (record { in-place = refl; falls = rw e (omega arith) }) nothing (λ e. absurd (omega arith)) (λ e. absurd (omega arith))
           (closes refl z d (λ _. refl))
 
       expanded-turn : Turns (closeExpandedEmpty r last)
@@ -526,7 +565,7 @@ module _ (doc : List ℕ) (cap : ℕ) (last : Span) (r : Reader) where
     phase-turn Phase.InsideMarkup e = taken-turn _ _ (stands Phase.InsideMarkup e (omega arith)) (markup-cut doc (r .position .0) in-doc (markup-at doc r ok e))
     phase-turn Phase.InsideRef e = taken-turn _ _ (stands Phase.InsideRef e (omega arith)) (ref-cut doc (r .position .0) in-doc (ref-at doc r ok e))
     phase-turn Phase.InsideEmpty e = expanded-turn e
-    phase-turn Phase.Done e = ended-quiet doc cap last r _ (record { after = omega arith; ordered = omega arith; within = in-doc })
+    phase-turn Phase.Done e = ended-quiet doc cap last r _ here nothing
 
 -- a call on a sound state is a turn
 pub step-turn : (doc stack : List ℕ) (r : Reader) → sound doc stack r ≡ true

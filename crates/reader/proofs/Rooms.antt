@@ -1,6 +1,6 @@
 -- There is room on the stack for what a call writes: only a Start writes, and it is given only where its name has its slots. Assumes nothing.
 use Prim.Native.Nat.{ℕ, _+_}
-use mathlib.Core.Path.{_≡_, refl}
+use mathlib.Core.Path.{_≡_, refl, sym, subst}
 use mathlib.Core.Bool.{Bool, true, false}
 use mathlib.Core.List.{List}
 use native.Mathlib.Omega.{arith}
@@ -32,14 +32,21 @@ pub bad-step : (doc stack : List ℕ) (r : Reader) → sound doc stack r ≡ fal
 unfolding step
 bad-step doc stack r e = rw e
 
+-- what holds of a call on a sound state, and of the refusal of a bad one, holds of any call
+pub any-state : (doc stack : List ℕ) (r : Reader) (M : Step → Type 0) → (sound doc stack r ≡ true → M (step doc stack r)) → M (badState r) → M (step doc stack r)
+any-state doc stack r M good bad = by (sound doc stack r) refl
+  where
+    by : (b : Bool) → sound doc stack r ≡ b → M (step doc stack r)
+    by true e = good e
+    by false e = subst M (sym (bad-step doc stack r e)) bad
+
 -- the refusal of a bad state writes nothing
 bad-room : (n : ℕ) (r : Reader) → Room n (r .depth .0) (badState r .answer)
 unfolding badState
 bad-room n r = record { room = λ e. absurd (omega arith) }
 
 pub step-room : (doc stack : List ℕ) (r : Reader) → Room (length stack) (r .depth .0) (step doc stack r .answer)
-step-room doc stack r = by (sound doc stack r) refl
-  where
-    by : (b : Bool) → sound doc stack r ≡ b → Room (length stack) (r .depth .0) (step doc stack r .answer)
-    by true e = let t = step-turn doc stack r e in named-room doc stack r (sound-true doc stack r e) _ t (t .names)
-    by false e = rw (bad-step doc stack r e) (bad-room (length stack) r)
+step-room doc stack r =
+    any-state doc stack r (λ (s : Step). Room (length stack) (r .depth .0) (s .answer))
+    (λ e. let t = step-turn doc stack r e in named-room doc stack r (sound-true doc stack r e) _ t (t .names))
+    (bad-room (length stack) r)

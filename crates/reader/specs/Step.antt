@@ -1,4 +1,4 @@
--- One call (document 01, "Steps" and "When a call is refused"). The order of refusals is the order in which a definition hands on to the next: 17 in `step`;
+-- One call (document 01, "Steps" and "When a call is refused"; the place of 13 by document 02). The order of refusals is the order in which a definition hands on to the next: 17 in `step`;
 -- 14 and 8, and no closer (1 to 7), in the cutting of the piece; 13 in `checked`; the kind's own, and 15 last, in what the piece becomes.
 use Prim.Native.Nat.{ℕ, _+_}
 use mathlib.Core.Path.{_≡_}
@@ -6,10 +6,10 @@ use mathlib.Core.List.{List, [], _∷_}
 use lib.ListN.{length}
 use Rattle.ground.specs.Choose.{pick}
 use Rattle.ground.specs.Equal.{begins}
+use Rattle.ground.specs.Least.{Least}
 use Rattle.ground.specs.Part.{part}
 use Rattle.white.specs.White.{leading}
-use Rattle.utf8.specs.Utf8.{check, byUtf8}
-use Rattle.state.specs.declared.place.Position.{Position}
+use Rattle.utf8.specs.Utf8.{check, byUtf8, IllAt}
 use Rattle.state.specs.declared.place.Depth.{Depth}
 use Rattle.state.specs.declared.place.Span.{Span}
 use Rattle.state.specs.declared.config.Config.{Config}
@@ -49,17 +49,12 @@ module _ (doc : List ℕ) (r : Reader) (last : Span) (cap : Depth) where
   unfoldable pub emitted : Piece → Step
   emitted p = emittedAs (p .shape) (p .span) (p .next)
 
--- the place of 13, for a piece and its first ill-formed byte: "Place is the piece's start"
-unfoldable pub illPlace : Span → ℕ → Position
-illPlace piece ill = at (piece .from)
-
-module _ (doc : List ℕ) (r : Reader) (last : Span) (cap : Depth) where
-  -- 13: "piece not UTF-8", position "after piece"
+  -- 13: "piece not UTF-8", position "after piece"; its place is "the first byte of the first ill-formed sequence"
   unfoldable pub checked : Piece → Step
   checked p =
       byUtf8 (check (p .span .from) (part doc (p .span .from) (p .span .to)))
-      (emitted doc r last cap p)
-      (λ ill. stopped r Error.Encoding (illPlace (p .span) ill) (p .span))
+      (emitted p)
+      (λ ill. stopped r Error.Encoding (at ill) (p .span))
 
   -- a piece, or a refusal that ends the run
   unfoldable pub taken : Cut → Step
@@ -106,3 +101,9 @@ step doc stack r =
 pub record Stepped (doc stack : List ℕ) (r : Reader) (s : Step) (after : List ℕ) : Type 0 where
   pub outcome : s ≡ step doc stack r
   pub slots : after ≡ written stack (r .depth .0) (step doc stack r .answer)
+
+-- ---- the place of 13 in words
+
+-- "the least position from which no well-formed character of RFC 3629 starts, all before it being well formed", in a piece
+abbrev pub FirstIll : List ℕ → Span → ℕ → Type 0
+FirstIll doc piece = Least (IllAt doc (piece .from) (piece .to))

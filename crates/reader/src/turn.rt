@@ -33,7 +33,7 @@ ghost use mathlib.Core.Path.{_≡_};
 ghost use mathlib.Core.Bool.{true};
 ghost use Rattle.reader.specs.Asked.{dueOf};
 ghost use Rattle.reader.specs.Sound.{inPlace};
-ghost use Rattle.reader.specs.Step.{begin as beginOf, skipped, illPlace, emitted, checked as checkedOf, taken, stepPhase, step};
+ghost use Rattle.reader.specs.Step.{begin as beginOf, skipped, emitted, checked as checkedOf, taken, stepPhase, step};
 
 // The answer and the reader after it; a bad state is refused first.
 pub fn decide(reader: Reader, document: &[u8], stack: &[usize]) -> Step
@@ -117,7 +117,7 @@ fn take(reader: Reader, document: &[u8], last: Span, capacity: Depth, cut: Cut) 
     }
 }
 
-// A piece, if it is well-formed UTF-8.
+// A piece, if it is well-formed UTF-8; else it is refused at its first ill-formed byte.
 fn checked(reader: Reader, document: &[u8], last: Span, capacity: Depth, piece: Piece) -> Step
     ensures { λ r. ⌜ r ≡ checkedOf (now (document .entry)) reader last capacity piece ⌝ }
 {
@@ -126,14 +126,7 @@ fn checked(reader: Reader, document: &[u8], last: Span, capacity: Depth, piece: 
     let Utf8::IllFormed(ill) = utf8 else {
         return emit(reader, document, last, capacity, piece);
     };
-    reader.stop(Error::Encoding, ill_place(span, ill), span)
-}
-
-// The place told for a piece whose first ill-formed byte stands at `ill`.
-fn ill_place(piece: Span, ill: usize) -> Position
-    ensures { λ r. ⌜ r ≡ illPlace piece ill ⌝ }
-{
-    Position(piece.from)
+    reader.stop(Error::Encoding, Position(ill), span)
 }
 
 // What a piece becomes.

@@ -23,7 +23,7 @@ pub fn next_place(values: Values, document: &[u8], before: usize) -> usize {
             let content = piece.inner(4, 3);
             hyphen_place(document, content.from, values.place)
         }
-        13 => encoding_place(byte_at(document, piece.from), values.place, before),
+        13 => encoding_place(byte_at(document, piece.from), piece.from, before),
         _ => values.place,
     }
 }
@@ -40,7 +40,7 @@ fn hyphen_place(document: &[u8], from: usize, pair: usize) -> usize {
     told
 }
 
-// `encoding-place`: of ill-formed UTF-8 none is told in text and in references, only in markup.
-fn encoding_place(first: u8, ours: usize, before: usize) -> usize {
-    if first == b'<' { ours } else { before }
+// `encoding-place`: of ill-formed UTF-8 the piece's start in markup, and none in text and in references.
+fn encoding_place(first: u8, start: usize, before: usize) -> usize {
+    if first == b'<' { start } else { before }
 }

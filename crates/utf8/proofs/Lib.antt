@@ -3,3 +3,4 @@ pub mod Chars
 pub mod Rfc
 pub mod Turns
 pub mod Ascii
+pub mod Places

@@ -86,7 +86,7 @@ module _ (i : ℕ) (bs : List ℕ) where
       go (inr s) e = absurd (never (i + s .0) (sym e ∙ check-ill i (s .1)))
 
   -- No bytes get stuck at two positions, so the one is the least.
-  stuck-least : (p : ℕ) → Stuck bs p → Least (Stuck bs) p
+  pub stuck-least : (p : ℕ) → Stuck bs p → Least (Stuck bs) p
   stuck-least p s = record {
     has = s;
     before = λ k h t. let e = apart i p k (sym (check-ill i s) ∙ check-ill i t) in omega arith;

@@ -6,6 +6,7 @@ use mathlib.Core.Logic.{_⊎_}
 use lib.ListN.{length, take, drop}
 use lib.Dec.{leb}
 use Rattle.ground.specs.Choose.{pick}
+use Rattle.ground.specs.Part.{part}
 use Rattle.utf8.specs.declared.Utf8.{Utf8}
 use Rattle.utf8.specs.declared.Utf8.the-variants.{WellFormed, IllFormed}
 
@@ -102,3 +103,10 @@ pub record Stuck (bs : List ℕ) (p : ℕ) : Type 0 where
   pub within : p < length bs
   pub before : Octets (take p bs)
   pub no-char : (n : ℕ) → Char (take n (drop p bs)) → ⊥
+
+-- such a place in a part of a document: it lies in the part, all of the part before it is well formed, and no well-formed character of the document starts there
+pub record IllAt (doc : List ℕ) (from to place : ℕ) : Type 0 where
+  pub after : from ≤ place
+  pub before : place < to
+  pub well-formed : Octets (part doc from place)
+  pub no-char : (end : ℕ) → Char (part doc place end) → ⊥

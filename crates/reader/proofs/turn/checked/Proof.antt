@@ -10,7 +10,7 @@ returns c = simp (c .before .enum-told .given .1, ← c .before .before .before 
 
 returns-2 : tie.Need-returns-2
 unfolding checked
-returns-2 c = simp (← c .before .ill-place .ensures, c .before .before .before .utf8 .given .1, ← c .before .before .before .before .before .check .ensures) (c .stop .ensures)
+returns-2 c = simp (c .before .before .utf8 .given .1, ← c .before .before .before .before .check .ensures) (c .stop .ensures)
 
 pub checked-spec : {M : Type 1} → statement M
 checked-spec =
@@ -21,6 +21,5 @@ checked-spec =
     (λ c. search needs)
     (λ c κs. search needs)
     returns
-    (λ c κs. search needs)
     (λ c κs. search needs)
     returns-2)
