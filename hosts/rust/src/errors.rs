@@ -1,8 +1,10 @@
 //! What a refusal says.
 
+use crate::encoding::EncodingError;
 use crate::raw::{LONGEST, MOST_NAMES};
 use std::error;
 use std::fmt;
+use std::str::Utf8Error;
 
 /// Why a call gave no event. Each refusal has a number of its own, 1 to 17.
 ///
@@ -32,8 +34,8 @@ pub enum Error {
     Syntax(SyntaxError),
     /// The document is not well formed: 9 to 12. Reading goes on behind the piece.
     IllFormed(IllFormedError),
-    /// The piece is not UTF-8: 13. It ends the run.
-    Encoding,
+    /// The piece is not UTF-8: 13. Its place is the first byte from which no character starts. It ends the run.
+    Encoding(EncodingError),
     /// Markup that opens `<!D` or `<!d`: 14. This reader takes no document type. It ends the run.
     DocType,
     /// A name more than the stack has room for: 15. It ends the run.
@@ -108,8 +110,9 @@ pub enum IllFormedError {
     UnclosedReference,
 }
 
-/// The expected name and the one found, for the refusals that have them.
-pub(crate) struct Names<'a> {
+/// The bytes that a refusal tells: its piece; and the expected name and the one found, for the refusals that have them.
+pub(crate) struct Told<'a> {
+    pub piece: &'a [u8],
     pub expected: &'a [u8],
     pub found: &'a [u8],
 }
@@ -120,7 +123,7 @@ fn owned(name: &[u8]) -> String {
 
 impl Error {
     /// The refusal of this number.
-    pub(crate) fn numbered(number: usize, names: Names<'_>) -> Self {
+    pub(crate) fn numbered(number: usize, told: Told<'_>) -> Self {
         match number {
             1 => SyntaxError::UnclosedTag.into(),
             2 => SyntaxError::UnclosedSingleQuotedAttributeValue.into(),
@@ -132,13 +135,17 @@ impl Error {
             8 => SyntaxError::InvalidBangMarkup.into(),
             9 => IllFormedError::DoubleHyphenInComment.into(),
             10 => IllFormedError::MismatchedEndTag {
-                expected: owned(names.expected),
-                found: owned(names.found),
+                expected: owned(told.expected),
+                found: owned(told.found),
             }
             .into(),
-            11 => IllFormedError::UnmatchedEndTag(owned(names.found)).into(),
+            11 => IllFormedError::UnmatchedEndTag(owned(told.found)).into(),
             12 => IllFormedError::UnclosedReference.into(),
-            13 => Error::Encoding,
+            13 => match std::str::from_utf8(told.piece) {
+                Err(error) => error.into(),
+                // 13 comes for no piece that is UTF-8
+                Ok(_) => Error::BadState,
+            },
             14 => Error::DocType,
             15 => Error::NameStackFull,
             16 => Error::SliceTooLong,
@@ -172,7 +179,7 @@ impl Error {
                 IllFormedError::UnmatchedEndTag(_) => 11,
                 IllFormedError::UnclosedReference => 12,
             },
-            Error::Encoding => 13,
+            Error::Encoding(_) => 13,
             Error::DocType => 14,
             Error::NameStackFull => 15,
             Error::SliceTooLong => 16,
@@ -193,12 +200,24 @@ impl From<IllFormedError> for Error {
     }
 }
 
+impl From<EncodingError> for Error {
+    fn from(error: EncodingError) -> Self {
+        Error::Encoding(error)
+    }
+}
+
+impl From<Utf8Error> for Error {
+    fn from(error: Utf8Error) -> Self {
+        EncodingError::from(error).into()
+    }
+}
+
 impl fmt::Display for Error {
     fn fmt(&self, f: &mut fmt::Formatter<'_>) -> fmt::Result {
         match self {
             Error::Syntax(error) => error.fmt(f),
             Error::IllFormed(error) => error.fmt(f),
-            Error::Encoding => f.write_str("bytes that are not UTF-8"),
+            Error::Encoding(error) => error.fmt(f),
             Error::DocType => f.write_str("a document type, which this reader does not take"),
             Error::NameStackFull => write!(f, "more open elements than there is room for (at most {MOST_NAMES})"),
             Error::SliceTooLong => write!(f, "a document of more than {LONGEST} bytes"),
@@ -243,14 +262,15 @@ impl error::Error for Error {}
 
 #[cfg(test)]
 mod tests {
-    use super::{Error, Names};
+    use super::{Error, Told};
 
     fn numbered(number: usize) -> Error {
-        let names = Names {
+        let told = Told {
+            piece: b"</b\xFF>",
             expected: b"a",
             found: b"b",
         };
-        Error::numbered(number, names)
+        Error::numbered(number, told)
     }
 
     #[test]

@@ -34,12 +34,15 @@
 compile_error!("the archive of sporebasket is for processors with addresses of 64 bits");
 
 mod config;
+pub mod encoding;
 pub mod errors;
 pub mod events;
 pub mod lent;
 mod raw;
 pub mod reader;
 
+#[doc(inline)]
+pub use encoding::EncodingError;
 #[doc(inline)]
 pub use errors::{Error, IllFormedError, SyntaxError};
 #[doc(inline)]

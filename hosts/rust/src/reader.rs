@@ -1,6 +1,6 @@
 //! The reader: the memory that the archive is lent, and the names of its numbers.
 
-use crate::errors::{Error, Names};
+use crate::errors::{Error, Told};
 use crate::events::{Event, Part};
 use crate::lent;
 use crate::raw::{answer, state, ANSWER_SLOTS, MOST_NAMES, NAME_SLOTS, STATE_SLOTS};
@@ -81,7 +81,7 @@ impl<'a> Reader<'a> {
     /// use sporebasket::{Error, Event, Reader};
     ///
     /// assert_eq!(Reader::from_reader(b"").read_event(), Ok(Event::Eof));
-    /// assert_eq!(Reader::from_reader(b"\xC0\x80").read_event(), Err(Error::Encoding));
+    /// assert!(matches!(Reader::from_reader(b"\xC0\x80").read_event(), Err(Error::Encoding(_))));
     /// ```
     pub fn from_reader(document: &'a [u8]) -> Self {
         Reader::with_capacity(document, MOST_NAMES)
@@ -194,7 +194,7 @@ impl<'a> Reader<'a> {
     }
 
     /// The place of the last refusal, to be shown to a user; 0 if there was none. It is where the piece begins, but for two hyphens in a comment,
-    /// where it is the first of them.
+    /// where it is the first of them, and for bytes that are not UTF-8, where it is the first from which no character starts.
     ///
     /// ```
     /// let mut reader = sporebasket::Reader::from_str("<a></b>");
@@ -336,15 +336,16 @@ impl<'a> Reader<'a> {
         self.pause = if room < self.names { room } else { usize::MAX };
     }
 
-    /// The refusal of this number, or the one to make this reader, with the names of the last answer.
+    /// The refusal of this number, or the one to make this reader, with what the last answer tells.
     #[cold]
     fn refused(&mut self, number: usize) -> Error {
         self.error_position = self.answer[answer::PLACE];
-        let names = Names {
+        let told = Told {
+            piece: self.bytes(answer::PIECE),
             expected: self.bytes(answer::EXPECTED),
             found: self.bytes(answer::FOUND),
         };
-        Error::numbered(if self.made == 0 { number } else { self.made }, names)
+        Error::numbered(if self.made == 0 { number } else { self.made }, told)
     }
 }
 

@@ -3,7 +3,7 @@
 mod common;
 
 use common::Numbers;
-use sporebasket::{Error, Event, Reader};
+use sporebasket::{EncodingError, Error, Event, Reader};
 use std::thread;
 
 #[test]
@@ -45,6 +45,46 @@ fn the_place_of_a_refusal_is_kept() {
     assert!(reader.read_event().is_ok());
     assert_eq!((reader.error_position(), reader.piece()), (1, 5..6));
     assert_eq!((reader.expected(), reader.found()), (None, None));
+}
+
+#[test]
+fn the_byte_that_is_not_utf8_is_told() {
+    let documents: [&[u8]; 13] = [
+        b"\xC0\x80",
+        b"ab\xFF",
+        b"<a>ab\xFF",
+        b"\xEF\xBB\xBF\xC3\xA9\x80",
+        b"  <a>\xE2\x82</a>",
+        b"a&b\xC3&c;",
+        b"&\xF0\x9F\x9A;",
+        b"t<a b='\xC3\xA9\xED\xA0\x80'/>",
+        b"<a></a\xFF>",
+        b"<!--a--\xFF-->",
+        b"<![CDATA[\xF4\x90\x80\x80]]>",
+        b"<?a \xE2\x82\xAC\xE2?>",
+        b"<a>\xFF</\xFF>\xFF",
+    ];
+    for document in documents {
+        let mut reader = Reader::from_reader(document);
+        let error = loop {
+            match reader.read_event() {
+                Ok(event) => assert_ne!(event, Event::Eof, "{document:?}"),
+                Err(error) => break error,
+            }
+        };
+        let whole = std::str::from_utf8(document).unwrap_err();
+        let Error::Encoding(EncodingError::Utf8(told)) = error else {
+            panic!("{document:?}: {error}");
+        };
+        assert_eq!(reader.error_position(), whole.valid_up_to() as u64, "{document:?}");
+        assert_eq!(
+            reader.piece().start + told.valid_up_to(),
+            whole.valid_up_to(),
+            "{document:?}"
+        );
+        assert!(reader.piece().contains(&whole.valid_up_to()), "{document:?}");
+        assert_eq!(reader.read_event(), Ok(Event::Eof), "{document:?}");
+    }
 }
 
 #[test]

@@ -139,6 +139,20 @@ const ROWS: &[Row] = &[
         b"\xC0\x80",
         &["refused 13 0 piece 0..2 | done 2 0", "eof 2 2 2 2 0 | done 2 0"],
     ),
+    row(
+        "ab, then FF",
+        b"ab\xFF",
+        &["refused 13 2 piece 0..3 | done 3 0", "eof 3 3 3 3 0 | done 3 0"],
+    ),
+    row(
+        "ab, then FF, in an element",
+        b"<a>ab\xFF",
+        &[
+            "start 0 3 1 2 1 | text 3 1 1..2",
+            "refused 13 5 piece 3..6 | done 6 1 1..2",
+            "eof 6 6 6 6 0 | done 6 1 1..2",
+        ],
+    ),
     Row {
         name: "a name too many",
         document: b"<a><b>",

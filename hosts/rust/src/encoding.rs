@@ -1,0 +1,60 @@
+//! Bytes that are not UTF-8.
+
+use std::error;
+use std::fmt;
+use std::hash::{Hash, Hasher};
+use std::str::Utf8Error;
+
+/// How a piece is not UTF-8 (refusal 13).
+///
+/// Which byte it is stands with the reader, as for any refusal: [`Reader::error_position`](crate::Reader::error_position) is the first byte
+/// of the document from which no character starts, and all before it is UTF-8.
+///
+/// ```
+/// use sporebasket::encoding::EncodingError;
+/// use sporebasket::{Error, Reader};
+///
+/// let document = b"<a>ab\xFF";
+/// let mut reader = Reader::from_reader(document);
+/// reader.read_event()?;
+/// match reader.read_event() {
+///     Err(Error::Encoding(EncodingError::Utf8(error))) => assert_eq!(error.valid_up_to(), 2),
+///     other => panic!("{other:?}"),
+/// }
+/// assert_eq!((reader.piece(), reader.error_position()), (3..6, 5));
+/// assert_eq!(std::str::from_utf8(document).unwrap_err().valid_up_to(), 5);
+/// # Ok::<(), Error>(())
+/// ```
+#[derive(Clone, Debug, PartialEq, Eq)]
+#[non_exhaustive]
+pub enum EncodingError {
+    /// What Rust's own check says of the piece. Its `valid_up_to` counts from the first byte of the piece, and so
+    /// [`Reader::piece`](crate::Reader::piece)`().start` and it make the place of the refusal.
+    Utf8(Utf8Error),
+}
+
+impl Hash for EncodingError {
+    fn hash<H: Hasher>(&self, state: &mut H) {
+        let EncodingError::Utf8(error) = self;
+        (error.valid_up_to(), error.error_len()).hash(state);
+    }
+}
+
+impl From<Utf8Error> for EncodingError {
+    fn from(error: Utf8Error) -> Self {
+        EncodingError::Utf8(error)
+    }
+}
+
+impl fmt::Display for EncodingError {
+    fn fmt(&self, f: &mut fmt::Formatter<'_>) -> fmt::Result {
+        f.write_str("bytes that are not UTF-8")
+    }
+}
+
+impl error::Error for EncodingError {
+    fn source(&self) -> Option<&(dyn error::Error + 'static)> {
+        let EncodingError::Utf8(error) = self;
+        Some(error)
+    }
+}
