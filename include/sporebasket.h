@@ -55,8 +55,8 @@ enum {
 
 /* The slots of an answer, and the kinds of an event. Of an event NUMBER and PLACE are 0; of a refusal KIND, the content and NAME are; EXPECTED
  * and FOUND are 0 but in refusals 10 and 11 (11 has no EXPECTED). The PLACE of a refusal is where its piece begins, but in refusal 9, where it is the
- * first hyphen of the first pair, and in refusal 13, where it is the first byte of the piece from which no UTF-8 character starts. A span is its first
- * byte's place in the document and the place after its last. */
+ * first hyphen of the first pair, and in refusal 13, where it is the first byte of the first sequence of the piece that is not UTF-8. A span is its
+ * first byte's place in the document and the place after its last. */
 enum {
     SPOREBASKET_ANSWER_KIND,
     SPOREBASKET_ANSWER_NUMBER,

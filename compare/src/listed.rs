@@ -69,7 +69,7 @@ fn lone_and_pair(comment: &[u8]) -> Option<(usize, usize)> {
     Some((OPENER + lone, OPENER + pair))
 }
 
-/// Ill-formed UTF-8 in markup; or in text or a reference, but for a byte that stands where the refusal before has its place.
+/// Ill-formed UTF-8, but for the first byte of a document, or the first behind a byte order mark, with no refusal before.
 fn is_ill_formed(told: &Told) -> bool {
     told.answer[NUMBER] == ENCODING && first_ill(told.case.document) != their_ill(told)
 }
@@ -99,7 +99,7 @@ fn hyphen_place(told: &Told) -> bool {
     told.answer[PLACE] == from + pair && told.theirs.place() + told.theirs.mark == from + OPENER + (pair - lone - 1)
 }
 
-/// Our place is the first byte of the document that is not well formed.
+/// Our place is where Rust's own check of the document stops, the crate's what `their_ill` says.
 fn encoding_place(told: &Told) -> bool {
     told.answer[PLACE] == first_ill(told.case.document) && told.theirs.place() + told.theirs.mark == their_ill(told)
 }

@@ -231,6 +231,22 @@ const POSITIONS: &[Fault] = &[
     act("text trimmed to nothing at the end is Text", |c| c.kind() == EOF && !c.piece().is_empty(), |c| c.answer[KIND] = TEXT),
 ];
 
+/// The place is the piece's start.
+fn at_the_start(c: &mut Call) {
+    c.answer[PLACE] = c.answer[PIECE_FROM];
+}
+
+/// The place counts from the piece's start.
+fn in_the_piece(c: &mut Call) {
+    c.answer[PLACE] -= c.answer[PIECE_FROM];
+}
+
+/// The place counts each character of the piece before it as one.
+fn in_characters(c: &mut Call) {
+    let before = &c.document[c.answer[PIECE_FROM]..c.answer[PLACE]];
+    c.answer[PLACE] -= before.iter().filter(|&&b| matches!(b, 0x80..0xC0)).count();
+}
+
 const PLACES: &[Fault] = &[
     act("place of 9 is the second hyphen", |c| c.number() == DOUBLE_HYPHEN, |c| c.answer[PLACE] += 1),
     act(
@@ -251,35 +267,21 @@ const PLACES: &[Fault] = &[
             c.answer[PLACE] = c.answer[PIECE_FROM] + 4 + last;
         },
     ),
-    act("place of 9 is counted in the comment", |c| c.number() == DOUBLE_HYPHEN, |c| c.answer[PLACE] -= c.answer[PIECE_FROM]),
-    act(
-        "place of 9 is counted in characters",
-        |c| c.number() == DOUBLE_HYPHEN,
-        |c| {
-            let before = &c.document[c.answer[PIECE_FROM]..c.answer[PLACE]];
-            c.answer[PLACE] -= before.iter().filter(|&&b| matches!(b, 0x80..0xC0)).count();
-        },
-    ),
-    act("place of 9 is the piece's start", |c| c.number() == DOUBLE_HYPHEN, |c| c.answer[PLACE] = c.answer[PIECE_FROM]),
+    act("place of 9 is counted in the comment", |c| c.number() == DOUBLE_HYPHEN, in_the_piece),
+    act("place of 9 is counted in characters", |c| c.number() == DOUBLE_HYPHEN, in_characters),
+    act("place of 9 is the piece's start", |c| c.number() == DOUBLE_HYPHEN, at_the_start),
     act("the second refusal has the first one's place", |c| c.number() > 0 && c.last_place > 0, |c| c.answer[PLACE] = c.last_place),
-    act("place of 13 is the piece's start", |c| c.number() == ENCODING, |c| c.answer[PLACE] = c.answer[PIECE_FROM]),
-    act("place of 13 in markup is the piece's start", |c| c.number() == ENCODING && c.piece().starts_with(b"<"), |c| c.answer[PLACE] = c.answer[PIECE_FROM]),
-    act("place of 13 in a reference is the piece's start", |c| c.number() == ENCODING && c.piece().starts_with(b"&"), |c| c.answer[PLACE] = c.answer[PIECE_FROM]),
+    act("place of 13 is the piece's start", |c| c.number() == ENCODING, at_the_start),
+    act("place of 13 in markup is the piece's start", |c| c.number() == ENCODING && c.piece().starts_with(b"<"), at_the_start),
+    act("place of 13 in a reference is the piece's start", |c| c.number() == ENCODING && c.piece().starts_with(b"&"), at_the_start),
     act(
         "place of 13 is the last byte of the sequence",
         |c| c.number() == ENCODING,
         |c| c.answer[PLACE] += c.ill().map_or(0, |e| e.error_len().unwrap_or(c.piece().len() - e.valid_up_to()) - 1),
     ),
     act("place of 13 is behind the sequence's first byte", |c| c.number() == ENCODING, |c| c.answer[PLACE] += 1),
-    act("place of 13 is counted in the piece", |c| c.number() == ENCODING, |c| c.answer[PLACE] -= c.answer[PIECE_FROM]),
-    act(
-        "place of 13 is counted in characters",
-        |c| c.number() == ENCODING,
-        |c| {
-            let before = &c.document[c.answer[PIECE_FROM]..c.answer[PLACE]];
-            c.answer[PLACE] -= before.iter().filter(|&&b| matches!(b, 0x80..0xC0)).count();
-        },
-    ),
+    act("place of 13 is counted in the piece", |c| c.number() == ENCODING, in_the_piece),
+    act("place of 13 is counted in characters", |c| c.number() == ENCODING, in_characters),
     act(
         "place of 13 is the first byte beyond ASCII",
         |c| c.number() == ENCODING,

@@ -88,8 +88,8 @@ module _ (doc stack : List ℕ) (c : Config) (short : length doc ≤ longest) wh
       let t = turn doc stack c short n in
       let number = eqb-true (valuesOf (said doc (after n)) .number) 13 e in
       let read = what-is-read-is-well-formed n (λ d. over (eqb-true (valuesOf (said doc (after n)) .kind) (kindNumber Kind.Eof) (done-says doc stack c short n d)) number) in
-      ill-first doc 0 (length doc) (omega arith) _
-      (ill-wider doc (valuesOf (said doc (after n)) .piece .from) (valuesOf (said doc (after n)) .piece .to) 0 (length doc) _ (t .within) (omega arith) (t .within)
+      ill-first doc 0 (length doc) _
+      (ill-wider doc (valuesOf (said doc (after n)) .piece .from) (valuesOf (said doc (after n)) .piece .to) 0 (length doc) _ (omega arith) (t .within) (omega arith)
       (up-to-the-piece n read) (t .encoding .ill number .has))
     where
       -- Eof is no refusal

@@ -41,7 +41,7 @@ isMismatch a = eqb (valuesOf a .number) 10
 abbrev pub isUnmatched : Answer → Bool
 isUnmatched a = eqb (valuesOf a .number) 11
 
--- 13: "Encoding"
+-- 13: "piece not UTF-8"
 abbrev pub isEncoding : Answer → Bool
 isEncoding a = eqb (valuesOf a .number) 13
 

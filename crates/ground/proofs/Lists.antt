@@ -6,7 +6,7 @@ use native.Mathlib.Numerals.{add-one}
 use native.Mathlib.Omega.{arith}
 use native.Mathlib.Decide.{decLt}
 use lib.ListN.{length, getD, take, drop, drop-of-length-le, length-take, length-drop, List·getD-eq-default}
-use lib.Seq.{drop-cons, drop-length, take-nil, take-suc, getD-drop}
+use lib.Seq.{drop-cons, drop-length, drop-drop, drop-at, take-nil, take-suc, take-add, getD-take, getD-drop}
 use lib.Dec.{ltb}
 use borrow.Author.Tests.{le-ltb, lt-ltb}
 use Rattle.ground.specs.Part.{part}
@@ -91,3 +91,25 @@ part-next s from to h k =
     let e : to - from ≡ suc (to - (from + 1)) = omega arith in
     part-in s from to (omega arith) k
     ∙ rw (e, drop-next s from (omega arith)) (ap (λ (bs : List ℕ). getD s from 0 ∷ bs) (sym (part-in s (from + 1) to (omega arith) k)))
+
+-- the byte at p of a span
+pub part-byte : (s : List ℕ) (from to p : ℕ) → to ≤ length s → p < to - from → getD (part s from to) p 0 ≡ getD s (from + p) 0
+part-byte s from to p k h =
+    ap (λ (bs : List ℕ). getD bs p 0) (part-in s from to (omega arith) k)
+    ∙ getD-take (to - from) (drop from s) p 0 h
+    ∙ getD-drop from s p 0
+
+-- a span in two
+module _ (s : List ℕ) (from mid to : ℕ) (h : from ≤ mid) (k : mid ≤ to) (l : to ≤ length s) where
+  pub part-cut : part s from to ≡ part s from mid ++ part s mid to
+  part-cut =
+      let e : to - from ≡ mid - from + (to - mid) = omega arith in
+      let f : from + (mid - from) ≡ mid = omega arith in
+      part-in s from to (omega arith) l
+      ∙ ap (λ (n : ℕ). take n (drop from s)) e
+      ∙ take-add (mid - from) (to - mid) (drop from s)
+      ∙ rw (drop-drop (mid - from) from s, f, part-in s from mid h (omega arith), part-in s mid to k l) refl
+
+  -- the second of the two
+  pub part-rest : drop (mid - from) (part s from to) ≡ part s mid to
+  part-rest = ap (drop (mid - from)) part-cut ∙ drop-at (part s from mid) (part s mid to) (mid - from) (part-length s from mid h (omega arith))

@@ -500,7 +500,7 @@ module _ (doc : List ℕ) (cap : ℕ) (last : Span) (r : Reader) where
       (λ e. emitted-turn (p .span) fits (rw (c .lies .starts) (f .near)) (well-formed (p .span .from) (bytes doc (p .span)) .0 e)
       (p .shape) (p .next) (rw (c .lies .starts) (c .moves)) (rw (c .lies .starts) (c .opens)) (c .lands))
       (λ ill e. ill-turn (p .span) fits ill
-      (ill-first doc (p .span .from) (p .span .to) (fits .within) ill (ill-here doc (p .span .from) (p .span .to) (fits .within) (c .border) (fits .ordered) ill e)))
+      (ill-first doc (p .span .from) (p .span .to) ill (ill-here doc (p .span .from) (p .span .to) (fits .within) (c .border) (fits .ordered) ill e)))
 
   taken-turn : (from : ℕ) (c : Cut) → From doc r from → CutAt doc from c → Turns (taken doc r last (depthOf cap) c)
   unfolding taken

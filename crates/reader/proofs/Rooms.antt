@@ -1,4 +1,5 @@
--- There is room on the stack for what a call writes: only a Start writes, and it is given only where its name has its slots. Assumes nothing.
+-- A call on any state. There is room on the stack for what it writes: only a Start writes, and it is given only where its name has its slots. Assumes
+-- nothing.
 use Prim.Native.Nat.{ℕ, _+_}
 use mathlib.Core.Path.{_≡_, refl, sym, subst}
 use mathlib.Core.Bool.{Bool, true, false}

@@ -11,7 +11,7 @@ use lib.ListN.{length, getD, take, drop, length-take, length-drop, take-append-d
 use lib.Seq.{getD-take, getD-drop, drop-drop}
 use Rattle.ground.specs.Part.{part}
 use Rattle.ground.proofs.Choices.{clash}
-use Rattle.ground.proofs.Lists.{part-in, part-length, part-end}
+use Rattle.ground.proofs.Lists.{part-length, part-byte, part-end}
 use Rattle.blocks.specs.Blocks.{NoneOf, YesWhere}
 use Rattle.blocks.proofs.Flags.{block-fits, block-less}
 use Rattle.utf8.specs.Utf8.{charLen, check}
@@ -131,11 +131,8 @@ module _ (s : List ℕ) (from to : ℕ) (a : Ascii s from to) where
   bytes : (p : ℕ) → p < length (part s from to) → getD (part s from to) p 0 ≤ 0x7F
   bytes p l = elim (decLt from to) [
     | yes h ↦ let m = part-length s from to (a .low) (a .within h) in
-        let e : getD (part s from to) p 0 ≡ getD s (from + p) 0 =
-        ap (λ (t : List ℕ). getD t p 0) (part-in s from to (a .low) (a .within h)) ∙ getD-take (to - from) (drop from s) p 0 (omega arith)
-        ∙ getD-drop from s p 0 in
         let k = a .ascii (from + p) (omega arith) (omega arith) in
-        omega arith
+        omega (arith, part-byte s from to p (a .within h) (omega arith))
     | no h ↦ absurd (omega (arith, part-end s from to))
   ]
 

@@ -7,10 +7,10 @@ use mathlib.Core.List.{List, [], _∷_, _++_, append-assoc}
 use native.Mathlib.Omega.{arith}
 use native.Mathlib.Decide.{decLt}
 use lib.ListN.{length, getD, take, drop}
-use lib.Seq.{take-add, take-all, take-at, drop-at, drop-drop, getD-take, getD-drop}
+use lib.Seq.{take-all}
 use Rattle.ground.specs.Least.{Least}
 use Rattle.ground.specs.Part.{part}
-use Rattle.ground.proofs.Lists.{part-in, part-crossed, part-past, part-length, part-first}
+use Rattle.ground.proofs.Lists.{part-in, part-crossed, part-past, part-length, part-first, part-byte, part-cut, part-rest}
 use Rattle.utf8.specs.Utf8.{Range, rows, Matches, MatchesOne, Char, Octets, Stuck, IllAt, check}
 use Rattle.utf8.specs.Utf8.Octets.{none, char}
 use Rattle.utf8.specs.declared.Utf8.the-variants.{IllFormed}
@@ -56,33 +56,11 @@ char-high c h two = rows-high rows c high (h .matches) two
 
 -- ---- parts
 
--- a part in two
-module _ (s : List ℕ) (from mid to : ℕ) (h : from ≤ mid) (k : mid ≤ to) (l : to ≤ length s) where
-  pub part-cut : part s from to ≡ part s from mid ++ part s mid to
-  part-cut =
-      let e : to - from ≡ mid - from + (to - mid) = omega arith in
-      let f : from + (mid - from) ≡ mid = omega arith in
-      part-in s from to (omega arith) l
-      ∙ ap (λ (n : ℕ). take n (drop from s)) e
-      ∙ take-add (mid - from) (to - mid) (drop from s)
-      ∙ rw (drop-drop (mid - from) from s, f, part-in s from mid h (omega arith), part-in s mid to k l) refl
-
-  -- the second of the two
-  part-rest : drop (mid - from) (part s from to) ≡ part s mid to
-  part-rest = ap (drop (mid - from)) part-cut ∙ drop-at (part s from mid) (part s mid to) (mid - from) (part-length s from mid h (omega arith))
-
-  -- the first
-  part-start : take (mid - from) (part s from to) ≡ part s from mid
-  part-start = ap (take (mid - from)) part-cut ∙ take-at (part s from mid) (part s mid to) (mid - from) (part-length s from mid h (omega arith))
-
--- the byte of a part that stands at p
-part-byte : (s : List ℕ) (from to p : ℕ) → from ≤ p → p < to → to ≤ length s → getD (part s from to) (p - from) 0 ≡ getD s p 0
-part-byte s from to p h k l =
-    let e : from + (p - from) ≡ p = omega arith in
-    ap (λ (bs : List ℕ). getD bs (p - from) 0) (part-in s from to (omega arith) l)
-    ∙ getD-take (to - from) (drop from s) (p - from) 0 (omega arith)
-    ∙ getD-drop from s (p - from) 0
-    ∙ ap (λ (n : ℕ). getD s n 0) e
+-- the bytes of a part before the place `mid`
+part-start : (s : List ℕ) (from mid to : ℕ) → from ≤ mid → mid ≤ to → to ≤ length s → take (mid - from) (part s from to) ≡ part s from mid
+part-start s from mid to h k l =
+    let e : from + (mid - from) ≡ mid = omega arith in
+    sym (part-first s from to (mid - from) (omega arith) l (omega arith)) ∙ ap (part s from) e
 
 -- ---- characters one after the other
 
@@ -100,22 +78,27 @@ octets-parts s from mid to h k l x y = subst Octets (sym (part-cut s from mid to
 
 -- ---- places that no character goes across
 
--- a byte up to 7F stands there or just before; so it is at the end, where none stands
+-- a byte up to 7F stands there or just before; the end is one too, since a byte past it reads as 0
 abbrev pub Border : List ℕ → ℕ → Type 0
 Border s p = (getD s p 0 ≤ 0x7F) ⊎ (getD s (p - 1) 0 ≤ 0x7F)
 
--- a character that starts before it ends there, or before
+-- the bytes of a character of two bytes or more, where they stand
+bytes-high : (s : List ℕ) (from end : ℕ) → end ≤ length s → from + 2 ≤ end → Char (part s from end) → (p : ℕ) → from ≤ p → p < end → 0x80 ≤ getD s p 0
+bytes-high s from end l two c p h k =
+    let e : from + (p - from) ≡ p = omega arith in
+    let n = part-length s from end (omega arith) l in
+    let same = part-byte s from end (p - from) l (omega arith) ∙ ap (λ (q : ℕ). getD s q 0) e in
+    omega (arith, char-high (part s from end) c (omega arith) (p - from) (omega arith))
+
+-- a character that starts before a border ends there, or before
 within-border : (s : List ℕ) (from to : ℕ) → Border s to → from < to → (end : ℕ) → Char (part s from end) → end ≤ to
 within-border s from to b h end c =
     elim (decLt to end) [
       | no n ↦ omega arith
       | yes n ↦ elim (decLt (length s) end) [
         | yes m ↦ absurd (omega (arith, char-some (part s from end) c, ap length (part-past s from end m)))
-        | no m ↦ let l = part-length s from end (omega arith) (omega arith) in
-            let high = char-high (part s from end) c (omega arith) in
-            absurd (by b
-            (omega (arith, high (to - from) (omega arith), part-byte s from end to (omega arith) n (omega arith)))
-            (omega (arith, high (to - 1 - from) (omega arith), part-byte s from end (to - 1) (omega arith) (omega arith) (omega arith))))
+        | no m ↦ let high = bytes-high s from end (omega arith) (omega arith) c in
+            absurd (by b (high to (omega arith) n) (high (to - 1) (omega arith) (omega arith)))
       ]
     ]
   where
@@ -123,10 +106,10 @@ within-border s from to b h end c =
     by (inl x) y z = omega arith
     by (inr x) y z = omega arith
 
-module _ (s : List ℕ) (from to : ℕ) (within : to ≤ length s) where
+module _ (s : List ℕ) (from to : ℕ) where
   -- what the check of a part that ends at a border tells
-  pub ill-here : Border s to → from ≤ to → (p : ℕ) → check from (part s from to) ≡ IllFormed p → IllAt s from to p
-  ill-here b h p e =
+  pub ill-here : to ≤ length s → Border s to → from ≤ to → (p : ℕ) → check from (part s from to) ≡ IllFormed p → IllAt s from to p
+  ill-here within b h p e =
       let w = ill-within from (part s from to) p e in
       let n : length (part s from to) ≡ to - from = part-length s from to h within in
       let back : from + (p - from) ≡ p = omega arith in
@@ -134,6 +117,7 @@ module _ (s : List ℕ) (from to : ℕ) (within : to ≤ length s) where
       record {
         after = w .0;
         before = omega arith;
+        within = within;
         well-formed = subst Octets (part-start s from p to (w .0) (omega arith) within) (stuck .before);
         no-char = no-char p (omega arith) (omega arith) (stuck .no-char);
       }
@@ -151,15 +135,16 @@ module _ (s : List ℕ) (from to : ℕ) (within : to ≤ length s) where
   ill-stuck p x =
       let a = x .after in
       let b = x .before in
-      let n = part-length s from to (omega arith) within in
+      let l = x .within in
+      let n = part-length s from to (omega arith) l in
       record {
         within = omega arith;
-        before = subst Octets (sym (part-start s from p to a (omega arith) within)) (x .well-formed);
-        no-char = λ n c. here a b n (subst (λ (bs : List ℕ). Char (take n bs)) (part-rest s from p to a (omega arith) within) c);
+        before = subst Octets (sym (part-start s from p to a (omega arith) l)) (x .well-formed);
+        no-char = λ n c. here b l n (subst (λ (bs : List ℕ). Char (take n bs)) (part-rest s from p to a (omega arith) l) c);
       }
     where
-      here : from ≤ p → p < to → (n : ℕ) → Char (take n (part s p to)) → ⊥
-      here a b n c =
+      here : p < to → to ≤ length s → (n : ℕ) → Char (take n (part s p to)) → ⊥
+      here b within n c =
           elim (decLt n (to - p)) [
             | yes l ↦ x .no-char (p + n) (subst Char (sym (part-first s p to n (omega arith) within (omega arith))) c)
             | no l ↦ x .no-char to (subst Char (take-all n (part s p to) (omega (arith, part-length s p to (omega arith) within))) c)
@@ -173,13 +158,14 @@ module _ (s : List ℕ) (from to : ℕ) (within : to ≤ length s) where
   }
 
 -- it is one of a longer part too, where what goes before is well formed
-pub ill-wider : (s : List ℕ) (from to low high p : ℕ) → to ≤ length s → low ≤ from → to ≤ high → Octets (part s low from) → IllAt s from to p → IllAt s low high p
-ill-wider s from to low high p within h k o x =
+pub ill-wider : (s : List ℕ) (from to low high p : ℕ) → low ≤ from → to ≤ high → high ≤ length s → Octets (part s low from) → IllAt s from to p → IllAt s low high p
+ill-wider s from to low high p h k l o x =
     let a = x .after in
     let b = x .before in
     record {
       after = omega arith;
       before = omega arith;
+      within = l;
       well-formed = octets-parts s low from p h a (omega arith) o (x .well-formed);
       no-char = x .no-char;
     }

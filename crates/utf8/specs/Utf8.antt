@@ -104,9 +104,11 @@ pub record Stuck (bs : List ℕ) (p : ℕ) : Type 0 where
   pub before : Octets (take p bs)
   pub no-char : (n : ℕ) → Char (take n (drop p bs)) → ⊥
 
--- such a place in a part of a document: it lies in the part, all of the part before it is well formed, and no well-formed character of the document starts there
+-- such a place in a part of a document: it lies in the part, and the part in the document; all of the part before it is well formed, and no well-formed
+-- character of the document starts there
 pub record IllAt (doc : List ℕ) (from to place : ℕ) : Type 0 where
   pub after : from ≤ place
   pub before : place < to
+  pub within : to ≤ length doc
   pub well-formed : Octets (part doc from place)
   pub no-char : (end : ℕ) → Char (part doc place end) → ⊥

@@ -7,8 +7,8 @@ use std::str::Utf8Error;
 
 /// How a piece is not UTF-8 (refusal 13).
 ///
-/// Which byte it is stands with the reader, as for any refusal: [`Reader::error_position`](crate::Reader::error_position) is the first byte
-/// of the document from which no character starts, and all before it is UTF-8.
+/// Which byte it is stands with the reader, as for any refusal: all of the document before
+/// [`Reader::error_position`](crate::Reader::error_position) is UTF-8, and no character starts there.
 ///
 /// ```
 /// use sporebasket::encoding::EncodingError;
@@ -52,9 +52,4 @@ impl fmt::Display for EncodingError {
     }
 }
 
-impl error::Error for EncodingError {
-    fn source(&self) -> Option<&(dyn error::Error + 'static)> {
-        let EncodingError::Utf8(error) = self;
-        Some(error)
-    }
-}
+impl error::Error for EncodingError {}

@@ -34,7 +34,7 @@ pub enum Error {
     Syntax(SyntaxError),
     /// The document is not well formed: 9 to 12. Reading goes on behind the piece.
     IllFormed(IllFormedError),
-    /// The piece is not UTF-8: 13. Its place is the first byte from which no character starts. It ends the run.
+    /// The piece is not UTF-8: 13. Its place is the first byte of the first sequence that is not. It ends the run.
     Encoding(EncodingError),
     /// Markup that opens `<!D` or `<!d`: 14. This reader takes no document type. It ends the run.
     DocType,

@@ -194,7 +194,7 @@ impl<'a> Reader<'a> {
     }
 
     /// The place of the last refusal, to be shown to a user; 0 if there was none. It is where the piece begins, but for two hyphens in a comment,
-    /// where it is the first of them, and for bytes that are not UTF-8, where it is the first from which no character starts.
+    /// where it is the first of them, and for a piece that is not UTF-8, where it is the first byte of the first sequence that is not.
     ///
     /// ```
     /// let mut reader = sporebasket::Reader::from_str("<a></b>");
