@@ -75,7 +75,7 @@ pub fn families(amount: Amount) -> Vec<Family> {
     vec![two, three, four, leads, behind_characters()]
 }
 
-/// Characters of each length, and all of them.
+/// No character, one of each length, and all of them.
 const CHARACTERS: &[&[u8]] = &[b"", b"a", b"\xC3\xA9", b"\xE2\x82\xAC", b"\xF0\x9F\x9A\x86", b"\xF0\x9F\x9A\x86\xE2\x82\xACa\xC3\xA9"];
 
 /// Sequences that are no character: a byte that begins none, one too long, a surrogate, one beyond the last, and characters cut off after each byte.

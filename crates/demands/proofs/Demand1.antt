@@ -26,7 +26,7 @@ use Rattle.reader.specs.Names.{written}
 use Rattle.reader.specs.Sound.{sound}
 use Rattle.reader.specs.Step.{stepPhase, step}
 use Rattle.reader.proofs.Outside.{Turned, rankAt, rank, step-turn, call-numbers}
-use Rattle.reader.proofs.Rooms.{bad-step}
+use Rattle.reader.proofs.Rooms.{bad-step, any-state}
 use Rattle.demands.specs.Run.{World, said, call, run, AtRest}
 use Rattle.demands.specs.Answers.{AnEvent, ARefusal, isEof, isBadState}
 use Rattle.demands.specs.Open.{newest}
@@ -55,9 +55,9 @@ module _ (doc stack : List ℕ) (r : Reader) where
   unfolding badState written
   unsound-changes-nothing e = (ap (λ (s : Step). s .reader) (bad-step doc stack r e), ap (λ (s : Step). written stack (r .depth .0) (s .answer)) (bad-step doc stack r e))
 
-  no-16 : (t : Bool) → sound doc stack r ≡ t → valuesOf (step doc stack r .answer) .number ≡ 16 → ⊥
-  no-16 true e = sound-numbers e .0
-  no-16 false e = λ n. let b = eqb-true (valuesOf (step doc stack r .answer) .number) 17 (bad-state-exactly-when-unsound .1 e) in omega arith
+  no-16 : valuesOf (step doc stack r .answer) .number ≡ 16 → ⊥
+  unfolding badState
+  no-16 = any-state doc stack r (λ (s : Step). valuesOf (s .answer) .number ≡ 16 → ⊥) (λ e. sound-numbers e .0) (λ n. omega arith)
 
   -- THEOREM: "every call returns an event, end of file or a numbered refusal of document 01"
   pub every-call-is-answered : AnEvent (step doc stack r .answer) ⊎ ARefusal (step doc stack r .answer)
@@ -67,7 +67,7 @@ module _ (doc stack : List ℕ) (r : Reader) where
           ⊎ ((valuesOf (step doc stack r .answer) .kind ≡ 0) × (1 ≤ valuesOf (step doc stack r .answer) .number) × (valuesOf (step doc stack r .answer) .number ≤ 17))
           → AnEvent (step doc stack r .answer) ⊎ ARefusal (step doc stack r .answer)
       by (inl x) = inl x
-      by (inr x) = inr (x .0, x .1, x .2, no-16 (sound doc stack r) refl)
+      by (inr x) = inr (x .0, x .1, x .2, no-16)
 
 -- ---- a run
 

@@ -112,7 +112,7 @@ phase-lands doc end among =
     other n (inl h) = absurd (n h)
     other n (inr (inl h)) = h
 
--- where a text or a dangling reference ends, and where any other piece does
+-- no character goes across a place with a `<` or `&`, the document's end, or a place right behind a byte up to 7F
 text-border : (doc : List ℕ) (end : ℕ) → Among textEnds (getD doc end 0) → Border doc end
 text-border doc end (inl e) = inl (omega arith)
 text-border doc end (inr (inl e)) = inl (omega arith)

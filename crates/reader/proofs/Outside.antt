@@ -14,7 +14,7 @@ use Rattle.ground.specs.Part.{part}
 use Rattle.ground.proofs.Choices.{pick-cases, clash, both, not-true, not-false}
 use Rattle.ground.proofs.Equal.{begins-long, same-is}
 use Rattle.ground.proofs.Lists.{part-end}
-use Rattle.white.specs.White.{isWhite, notWhite, nameLen}
+use Rattle.white.specs.White.{isWhite, notWhite, leading, nameLen}
 use Rattle.white.proofs.Runs.{until-within}
 use Rattle.utf8.specs.Utf8.{check, byUtf8, Octets}
 use Rattle.utf8.specs.declared.Utf8.{Utf8}
@@ -514,12 +514,13 @@ module _ (doc : List ℕ) (cap : ℕ) (last : Span) (r : Reader) where
   unfolding skipped
   skip-from from f =
       pick-cases (From doc r) (r .settings .«trim_text_start») _ _
-      (λ _. record {
+      (λ _. let w : from + leading (part doc from (length doc)) ≤ length doc =
+      omega (arith, f, until-within notWhite (part doc from (length doc)), part-end doc from (length doc)) in
+      record {
         after = omega (arith, f);
-        within = omega (arith, f, until-within notWhite (part doc from (length doc)), part-end doc from (length doc));
+        within = w;
         near = omega (arith, f);
-        passed = octets-parts doc (r .position .0) from _ (f .after) (omega arith)
-            (omega (arith, until-within notWhite (part doc from (length doc)), part-end doc from (length doc), f .within)) (f .passed) (white-octets doc from (f .within));
+        passed = octets-parts doc (r .position .0) from _ (f .after) (omega arith) w (f .passed) (white-octets doc from (f .within));
       })
       (λ _. f)
 

@@ -30,6 +30,10 @@ white-low b =
     is : (k : ℕ) {t : Bool} → (b ≡ k → b ≤ 0x7F) → (t ≡ true → b ≤ 0x7F) → pick (eqb b k) true t ≡ true → b ≤ 0x7F
     is k {t} f g = pick-cases (λ (x : Bool). x ≡ true → b ≤ 0x7F) (eqb b k) true t (λ e _. f (eqb-true b k e)) (λ _ e. g e)
 
+bom-octets : Octets bom
+unfolding checkFrom rowLen inRanges
+bom-octets = well-formed 0 bom .0 refl
+
 module _ (doc : List ℕ) where
   -- the white space that `trim_text_start` passes over
   pub white-octets : (from : ℕ) → from ≤ length doc → Octets (part doc from (from + leading (part doc from (length doc))))
@@ -43,10 +47,6 @@ module _ (doc : List ℕ) where
       rw (getD-take (leading bs) bs k 0 m) (white-low (getD bs k 0) (not-false _ (until-before notWhite bs k m .1)))))
 
   -- the byte order mark
-  bom-octets : Octets bom
-  unfolding checkFrom rowLen inRanges
-  bom-octets = well-formed 0 bom .0 refl
-
   pub begin-octets : Octets (part doc 0 (begin doc))
   unfolding begin
   begin-octets =

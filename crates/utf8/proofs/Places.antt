@@ -1,7 +1,7 @@
 -- Where a part of a document is ill formed: what the check of the part tells holds in the document too, as no character goes across the part's end.
 -- Assumes nothing.
 use Prim.Native.Nat.{ℕ, zero, suc, _+_, _-_, _≤_, _<_}
-use mathlib.Core.Path.{_≡_, refl, sym, ap, _∙_, subst}
+use mathlib.Core.Path.{_≡_, sym, ap, _∙_, subst}
 use mathlib.Core.Logic.{_⊎_, inl, inr}
 use mathlib.Core.List.{List, [], _∷_, _++_, append-assoc}
 use native.Mathlib.Omega.{arith}
@@ -14,6 +14,7 @@ use Rattle.ground.proofs.Lists.{part-in, part-crossed, part-past, part-length, 
 use Rattle.utf8.specs.Utf8.{Range, rows, Matches, MatchesOne, Char, Octets, Stuck, IllAt, check}
 use Rattle.utf8.specs.Utf8.Octets.{none, char}
 use Rattle.utf8.specs.declared.Utf8.the-variants.{IllFormed}
+use Rattle.utf8.proofs.Table.{matches-length}
 use Rattle.utf8.proofs.Chars.{char-some}
 use Rattle.utf8.proofs.Rfc.{first-ill, stuck-least, ill-within}
 
@@ -31,12 +32,6 @@ matches-high (r ∷ rs) [] h m k l = absurd m
 matches-high (r ∷ rs) (b ∷ bs) h m zero l = omega (arith, h .0, m .0)
 matches-high (r ∷ rs) (b ∷ bs) h m (suc k) l = matches-high rs bs (h .1) (m .2) k (omega arith)
 
-matches-size : (rs : List Range) (c : List ℕ) → Matches rs c → length c ≡ length rs
-matches-size [] [] m = refl
-matches-size [] (b ∷ bs) m = absurd m
-matches-size (r ∷ rs) [] m = absurd m
-matches-size (r ∷ rs) (b ∷ bs) m = ap suc (matches-size rs bs (m .2))
-
 -- each row has one byte, or none of its ranges reaches below 80
 abbrev HighRows : List (List Range) → Type 0
 HighRows [] = Unit {0}
@@ -44,7 +39,7 @@ HighRows (r ∷ rs) = ((length r ≤ 1) ⊎ High r) × HighRows rs
 
 rows-high : (rs : List (List Range)) (c : List ℕ) → HighRows rs → MatchesOne rs c → 2 ≤ length c → (k : ℕ) → k < length c → 0x80 ≤ getD c k 0
 rows-high [] c h m two = absurd m
-rows-high (r ∷ rs) c (inl short, h) (inl m) two = absurd (omega (arith, matches-size r c m))
+rows-high (r ∷ rs) c (inl short, h) (inl m) two = absurd (omega (arith, matches-length r c m))
 rows-high (r ∷ rs) c (inr high, h) (inl m) two = matches-high r c high m
 rows-high (r ∷ rs) c (x, h) (inr m) two = rows-high rs c h m two
 
