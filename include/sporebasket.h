@@ -113,10 +113,10 @@ enum {
     SPOREBASKET_BAD_STATE
 };
 
-/* A document has at most this many bytes, and at most this many names are open, each in two slots of the stack. */
+/* A document has at most this many bytes, and at most this many names are open, each in two slots of the stack; a longer stack holds no more. */
 enum {
-    SPOREBASKET_LONGEST = 16777216,
-    SPOREBASKET_MOST_NAMES = 4096,
+    SPOREBASKET_LONGEST = 268435456,
+    SPOREBASKET_MOST_NAMES = 65535,
     SPOREBASKET_NAME_SLOTS = 2
 };
 
@@ -129,7 +129,9 @@ size_t sporebasket_new(const uint8_t *document, size_t length, size_t settings, 
 
 /* Reads on, and writes the answer, the state after it, and, for a Start, its name on the stack. 0 is an event. Lend each call the same document and the
  * stack and state as the call before left them. 17: the state is none that a reader over this document and stack comes to, or it has
- * too few slots, and it is left alone; or the answer has too few slots, and nothing is written. Slots past those named above are left alone. */
+ * too few slots, and it is left alone; or the answer has too few slots, and nothing is written. Slots past those named above are left alone.
+ * A call opens one name at most. So a stack may be short at first, and where it is full a longer one be lent before the next call, with what the short
+ * one held in its first slots: every answer is then as if the longest had been lent from the start. */
 size_t sporebasket_read_event(const uint8_t *document, size_t length, size_t *stack, size_t stack_slots, size_t *state,
                               size_t state_slots, size_t *answer, size_t answer_slots);
 

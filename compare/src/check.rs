@@ -151,7 +151,7 @@ impl<E: Engine> Bench<E> {
             let before = Before::of(&theirs);
             let seen = theirs.read();
             let mut fields = self.compare(case, &before, &theirs, &seen, returned);
-            if fields & STACK == 0 && !self.names_hold(case, &theirs, call.is_multiple_of(64) || seen.kind == EOF) {
+            if fields & STACK == 0 && !self.names_hold(case, &theirs, looked_through(call, theirs.depth()) || seen.kind == EOF) {
                 fields |= OPEN;
             }
             let told = listed::Told { case, answer: &self.answer, before: &before, theirs: &theirs, seen: &seen };
@@ -398,6 +398,11 @@ impl<E: Engine> Bench<E> {
         }
         fields
     }
+}
+
+/// Whether all open names are looked at after this call: where many are open, so seldom that it takes no longer than the calls.
+fn looked_through(call: usize, depth: usize) -> bool {
+    call.is_multiple_of(depth.next_power_of_two().max(SMALL))
 }
 
 /// The state and the answer are lent with as many slots as they have, or, for a document of odd length, with more.

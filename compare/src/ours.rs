@@ -2,6 +2,9 @@
 
 use sporebasket::lent;
 
+/// The limits, which the archive is held to.
+pub use sporebasket::{LONGEST, MOST_NAMES};
+
 /// The settings, a bit each, and the letter of each in a recorded case.
 pub const DANGLING: u8 = 1;
 pub const UNMATCHED: u8 = 2;
@@ -67,13 +70,9 @@ pub const DOCTYPE: usize = 14;
 pub const STACK_FULL: usize = 15;
 pub const TOO_LONG: usize = 16;
 
-/// The limits, as document 01 has them.
-pub const LONGEST: usize = 16_777_216;
-pub const MOST_NAMES: usize = 4096;
-
 /// How many names a stack holds.
 pub fn capacity(slots: usize) -> usize {
-    (slots / 2).min(MOST_NAMES)
+    (slots / lent::NAME_SLOTS).min(MOST_NAMES)
 }
 
 /// What plays our side: the archive itself, or one with a fault put in.

@@ -15,10 +15,36 @@ static const char *const words[] = {
 /* What is lent to every call besides the document: the library keeps nothing itself. The stack holds the open names and the state holds where
  * the reader is, so both go from call to call as they are; an answer is written anew by each. */
 struct lent {
-    size_t stack[SPOREBASKET_NAME_SLOTS * SPOREBASKET_MOST_NAMES];
+    size_t *stack;
+    size_t names; /* that the stack has room for */
     size_t state[SPOREBASKET_STATE_SLOTS];
     size_t answer[SPOREBASKET_ANSWER_SLOTS];
 };
+
+/* Makes a stack that is full twice as long, if more names may be open. A call opens one name at most, so one that has room for it answers as if all
+ * room were there. 0 if there is no memory. */
+static int make_room(struct lent *lent)
+{
+    size_t names = 2 * lent->names;
+    size_t *stack;
+
+    if (lent->state[SPOREBASKET_STATE_DEPTH] < lent->names || lent->names == SPOREBASKET_MOST_NAMES) {
+        return 1;
+    }
+    if (names == 0) {
+        names = 32;
+    }
+    if (names > SPOREBASKET_MOST_NAMES) {
+        names = SPOREBASKET_MOST_NAMES;
+    }
+    stack = (size_t *)realloc(lent->stack, names * SPOREBASKET_NAME_SLOTS * sizeof *stack);
+    if (stack == NULL) {
+        return 0;
+    }
+    lent->stack = stack;
+    lent->names = names;
+    return 1;
+}
 
 /* An event has its piece, its content and the length of its name; a refusal its number and its place. */
 static void say(const size_t *answer)
@@ -32,46 +58,69 @@ static void say(const size_t *answer)
            answer[SPOREBASKET_ANSWER_NAME]);
 }
 
-static void list(const uint8_t *document, size_t length, struct lent *lent)
+/* 0 if there is no memory for the open names. */
+static int list(const uint8_t *document, size_t length, struct lent *lent)
 {
     size_t refusal = sporebasket_new(document, length, sporebasket_default_settings(), lent->state, SPOREBASKET_STATE_SLOTS);
     if (refusal != 0) {
         printf("%s %zu 0\n", words[0], refusal);
-        return;
+        return 1;
     }
     /* end of file comes by call number length + 2 */
     do {
-        sporebasket_read_event(document, length, lent->stack, sizeof lent->stack / sizeof lent->stack[0], lent->state,
+        if (!make_room(lent)) {
+            return 0;
+        }
+        sporebasket_read_event(document, length, lent->stack, lent->names * SPOREBASKET_NAME_SLOTS, lent->state,
                                SPOREBASKET_STATE_SLOTS, lent->answer, SPOREBASKET_ANSWER_SLOTS);
         say(lent->answer);
     } while (lent->answer[SPOREBASKET_ANSWER_KIND] != SPOREBASKET_EOF);
+    return 1;
+}
+
+/* The whole of a file; of one that is longer than a document may be, one byte more than that. NULL if it can't be read. */
+static uint8_t *whole(FILE *in, size_t *length)
+{
+    const size_t most = (size_t)SPOREBASKET_LONGEST + 1;
+    size_t room = 65536;
+    uint8_t *document = (uint8_t *)malloc(room);
+
+    *length = 0;
+    while (document != NULL) {
+        uint8_t *longer;
+        *length += fread(document + *length, 1, room - *length, in);
+        if (*length < room || room == most) {
+            break;
+        }
+        room = room < most / 2 ? 2 * room : most;
+        longer = (uint8_t *)realloc(document, room);
+        if (longer == NULL) {
+            free(document);
+        }
+        document = longer;
+    }
+    if (ferror(in)) {
+        free(document);
+        document = NULL;
+    }
+    return document;
 }
 
 int main(int argc, char **argv)
 {
-    /* One byte more than a document may have: if it is filled, the document is too long. The pointer is not null, even for an empty document. */
-    const size_t room = (size_t)SPOREBASKET_LONGEST + 1;
-    uint8_t *document = (uint8_t *)malloc(room);
-    struct lent *lent = (struct lent *)malloc(sizeof *lent);
     FILE *in = argc > 1 ? fopen(argv[1], "rb") : stdin;
+    struct lent lent = {NULL, 0, {0}, {0}};
     size_t length = 0;
-    int failed = in == NULL || document == NULL || lent == NULL;
+    uint8_t *document = in == NULL ? NULL : whole(in, &length);
+    int done = document != NULL && list(document, length, &lent) && fflush(stdout) == 0;
 
-    if (!failed) {
-        length = fread(document, 1, room, in);
-        failed = ferror(in);
-    }
-    if (!failed) {
-        list(document, length, lent);
-        failed = fflush(stdout) != 0;
-    }
-    if (failed) {
+    if (!done) {
         perror("events");
     }
     if (in != NULL) {
         fclose(in);
     }
-    free(lent);
+    free(lent.stack);
     free(document);
-    return failed ? 2 : 0;
+    return done ? 0 : 2;
 }

@@ -30,3 +30,8 @@ pub fn grouped(number: usize) -> String {
     }
     grouped
 }
+
+/// Numbers with so many digits behind the point, one after the other.
+pub fn joined(numbers: &[f64], digits: usize) -> String {
+    numbers.iter().map(|number| format!("{number:.digits$}")).collect::<Vec<_>>().join(" / ")
+}

@@ -2,16 +2,15 @@
 
 use crate::check::told;
 use crate::clock::{least, ratio, rounds, Row, Samples};
-use crate::grid::{self, grouped};
+use crate::grid::{self, grouped, joined};
 use crate::inputs::{self, Input};
 use crate::runners::{Runner, Settings};
 use crate::worst;
-use sporebasket::LONGEST;
 
 type Runners = [Box<dyn Runner>];
 
-/// The lengths that the inputs are made at, up to the limit of a document.
-const LENGTHS: [usize; 3] = [65_536, 1_048_576, LONGEST];
+/// The lengths that the inputs are made at.
+const LENGTHS: [usize; 3] = [65_536, 1_048_576, worst::LONG];
 /// How many rounds there are.
 const ROUNDS: usize = 7;
 /// A ratio above it is not linear, unless the other one is below: a cache that is full between two lengths makes one step, and no second one.
@@ -91,10 +90,6 @@ fn cells(
         above.push(format!("{name}, {}: {told}", runners[column].name()));
     }
     [joined(&times, digits), told]
-}
-
-fn joined(numbers: &[f64], digits: usize) -> String {
-    numbers.iter().map(|number| format!("{number:.digits$}")).collect::<Vec<_>>().join(" / ")
 }
 
 /// Prints the lines, which have two cells for each runner.

@@ -7,7 +7,9 @@ mod clock;
 mod grid;
 mod growth;
 mod inputs;
+mod large;
 mod machine;
+mod memory;
 mod runners;
 mod table;
 mod worst;
@@ -20,7 +22,7 @@ use std::process::ExitCode;
 use std::{env, fs};
 
 const USAGE: &str = "\
-usage: speed [--quick | --rounds N] [--trim] [--beside NAME=PATH] [--also NAME=PATH].. | --growth [--also NAME=PATH].. | --describe | --write FOLDER";
+usage: speed [--quick | --rounds N] [--trim] [--beside NAME=PATH] [--also NAME=PATH].. | [--growth | --large] [--also NAME=PATH].. | --describe | --write FOLDER";
 
 /// How many rounds there are: enough for the times to settle, and for a look.
 const ROUNDS: usize = 1000;
@@ -29,6 +31,7 @@ const QUICK: usize = 200;
 enum Wish {
     Table { trim: bool, rounds: usize, beside: Option<Build>, also: Vec<Build> },
     Growth { also: Vec<Build> },
+    Large { also: Vec<Build> },
     Describe,
     Write(PathBuf),
 }
@@ -44,13 +47,14 @@ fn build(argument: &str) -> Option<Build> {
 }
 
 fn wish() -> Option<Wish> {
-    let (mut trim, mut rounds, mut growth, mut beside, mut also) = (false, None, false, None, Vec::new());
+    let (mut trim, mut rounds, mut growth, mut large, mut beside, mut also) = (false, None, false, false, None, Vec::new());
     let mut arguments = env::args().skip(1);
     while let Some(argument) = arguments.next() {
         match argument.as_str() {
             "--quick" => rounds = Some(QUICK),
             "--rounds" => rounds = Some(arguments.next()?.parse().ok().filter(|&rounds| rounds > 0)?),
             "--growth" => growth = true,
+            "--large" => large = true,
             "--trim" => trim = true,
             "--beside" if beside.is_none() => beside = Some(build(&arguments.next()?)?),
             "--also" => also.push(build(&arguments.next()?)?),
@@ -59,8 +63,9 @@ fn wish() -> Option<Wish> {
             _ => return None,
         }
     }
-    if growth {
-        return (!trim && rounds.is_none() && beside.is_none()).then_some(Wish::Growth { also });
+    if growth || large {
+        let wish = if growth { Wish::Growth { also } } else { Wish::Large { also } };
+        return (growth != large && !trim && rounds.is_none() && beside.is_none()).then_some(wish);
     }
     Some(Wish::Table { trim, rounds: rounds.unwrap_or(ROUNDS), beside, also })
 }
@@ -73,6 +78,7 @@ fn main() -> ExitCode {
     let done = match wish {
         Wish::Table { trim, rounds, beside, also } => table(trim, rounds, beside, also),
         Wish::Growth { also } => growth(also),
+        Wish::Large { also } => large(also),
         Wish::Describe => {
             inputs::describe();
             Ok(())
@@ -124,6 +130,13 @@ fn growth(also: Vec<Build>) -> Result<(), String> {
     let mut runners = builds(None, also)?;
     machine::print();
     growth::run(&mut runners)
+}
+
+fn large(also: Vec<Build>) -> Result<(), String> {
+    let mut runners = builds(None, also)?;
+    runners.push(Box::new(Package));
+    machine::print();
+    large::run(&mut runners)
 }
 
 /// Writes the inputs, each to a file of its name.

@@ -3,7 +3,6 @@
 use self::Shape::{Nesting, Run};
 use crate::clock::Row;
 use crate::runners::Settings;
-use sporebasket::{LONGEST, MOST_NAMES};
 
 pub struct Worst {
     name: &'static str,
@@ -15,13 +14,13 @@ pub struct Worst {
 enum Shape {
     /// Bytes, then others again and again, then the last ones.
     Run(&'static [u8], &'static [u8], &'static [u8]),
-    /// As many names open as may be, as long as fits, and closed again.
-    Nesting,
+    /// So many names open, as long as fits, and closed again.
+    Nesting(usize),
 }
 
-/// The limit of a document. Those that take a call for every few bytes have less.
-const LONG: usize = LONGEST;
-const SHORT: usize = LONGEST / 4;
+/// Enough to see how the time grows. Those that take a call for every few bytes have less.
+pub const LONG: usize = 16_777_216;
+const SHORT: usize = LONG / 4;
 
 const DEFAULT: Settings = Settings { trim_text: false, allow_dangling_amp: false, check_comments: false };
 const TRIM: Settings = Settings { trim_text: true, ..DEFAULT };
@@ -57,7 +56,7 @@ pub const ALL: [Worst; 30] = [
     worst("`a`, spaces to the end, trim_text", TRIM, Run(b"a", b" ", b""), LONG),
     worst("`<a`, spaces, `>`", DEFAULT, Run(b"<a", b" ", b">"), LONG),
     worst("`<a></a`, spaces, `>`", DEFAULT, Run(b"<a></a", b" ", b">"), LONG),
-    worst("4,096 long names opened and closed", DEFAULT, Nesting, LONG),
+    worst("4,096 long names opened and closed", DEFAULT, Nesting(4096), LONG),
     worst("text whose last byte is ill-formed", DEFAULT, Run(b"", b"a", b"\xFF"), LONG),
     worst("text with a letter of two bytes in every sixteen", DEFAULT, Run(b"", "timetable 24/7 é".as_bytes(), b""), LONG),
     worst("text of two bytes a letter", DEFAULT, Run(b"", "é".as_bytes(), b""), LONG),
@@ -72,7 +71,7 @@ impl Worst {
             name: self.name.to_string(),
             document: match self.shape {
                 Run(before, again, last) => run(length, before, again, last),
-                Nesting => nesting(length),
+                Nesting(names) => nesting(length, names),
             },
             settings: self.settings,
         })
@@ -84,8 +83,9 @@ fn run(length: usize, before: &[u8], again: &[u8], last: &[u8]) -> Vec<u8> {
     [before, &again.repeat(count), last].concat()
 }
 
-fn nesting(length: usize) -> Vec<u8> {
+/// So many elements, one in the other, with names as long as fit.
+pub fn nesting(length: usize, names: usize) -> Vec<u8> {
     let marks = "<></>".len();
-    let name = "n".repeat((length / MOST_NAMES - marks) / 2);
-    [format!("<{name}>").repeat(MOST_NAMES), format!("</{name}>").repeat(MOST_NAMES)].concat().into_bytes()
+    let name = "n".repeat((length / names - marks) / 2);
+    [format!("<{name}>").repeat(names), format!("</{name}>").repeat(names)].concat().into_bytes()
 }

@@ -224,6 +224,7 @@ const POSITIONS: &[Fault] = &[
         },
     ),
     act("positions in 16 bits", |c| c.state[POSITION] > 65_535 && c.kind() == TEXT, |c| c.answer[PIECE_TO] &= 65_535),
+    act("positions in 24 bits", |c| c.state[POSITION] > 0xFF_FFFF && c.kind() == TEXT, |c| c.answer[PIECE_TO] &= 0xFF_FFFF),
     act("one byte short at the greatest length", |c| c.document.len() == LONGEST && c.kind() == EOF, |c| c.state[POSITION] -= 1),
     act("text split at 4,096 bytes", |c| c.kind() == TEXT && c.content().len() > 4096, |c| c.event(TEXT, 4096, (0, 0), 0)),
     act("text of more than 255 bytes cut", |c| c.kind() == TEXT && c.content().len() > 255, |c| c.answer[CONTENT_TO] -= 256),
@@ -412,7 +413,7 @@ const STACKS: &[Fault] = &[
         },
     ),
     act(
-        "15 for the 4,096th name",
+        "15 for the last name that may be open",
         |c| c.kind() == START && c.state[DEPTH] == MOST_NAMES,
         |c| {
             c.refuse(STACK_FULL, 0);
@@ -420,7 +421,15 @@ const STACKS: &[Fault] = &[
         },
     ),
     act(
-        "a 4,097th name on a larger stack",
+        "15 for the 4,097th name",
+        |c| c.kind() == START && c.state[DEPTH] == 4097,
+        |c| {
+            c.refuse(STACK_FULL, 0);
+            c.state[DEPTH] -= 1
+        },
+    ),
+    act(
+        "a name more than may be open on a larger stack",
         |c| c.number() == STACK_FULL && c.before[DEPTH] == MOST_NAMES && c.stack.len() > 2 * MOST_NAMES + 1,
         |c| {
             let length = c.rest().iter().position(|&b| b == b'>').unwrap_or_default() + 1;
@@ -479,6 +488,11 @@ const ENDS: &[Fault] = &[
 const LENT: &[Fault] = &[
     making("a reader begins behind the first byte", |number, state| state[POSITION] += (*number == 0) as usize),
     making("a reader begins in text", |number, state| state[PHASE] += (*number == 0) as usize),
+    making("16 for a document of 16,777,217 bytes", |number, state| {
+        if *number == 0 && state[LENGTH] > 16_777_216 {
+            *number = TOO_LONG
+        }
+    }),
     making("a document that is too long is not refused", |number, _| *number = 0),
     making("17 for a document that is too long", |number, _| *number += (*number > 0) as usize),
     parting("an empty part stands at the start", |part| {

@@ -3,7 +3,12 @@
 use super::*;
 
 pub fn families(amount: Amount) -> Vec<Family> {
-    vec![short(), deep(), names(), long(amount), longest(amount)]
+    vec![short(), deep(), names(), long(amount)]
+}
+
+/// Those at the limits of a document and of its names, which take long.
+pub fn largest(amount: Amount) -> Vec<Family> {
+    vec![deepest(amount), longest(amount)]
 }
 
 /// No bytes and one byte, under all settings and small stacks.
@@ -15,25 +20,40 @@ fn short() -> Family {
     })
 }
 
-/// As many names open as the stack holds, one fewer and one more, closed again or not.
+/// What stands in the opening tags of names that are open at once.
+const NAMES_OPEN: [&str; 3] = ["a", "", "n\u{e9}me x='1'"];
+
+/// Small stacks, and one of some thousand slots.
 fn deep() -> Family {
-    let sizes: Vec<usize> = (0..=40).chain([63, 64, 65, 127, 128, 200, 8190, 8191, 8192, 8193, 8194, 8199, 8200, 9000]).collect();
+    let sizes: Vec<usize> = (0..=40).chain([63, 64, 65, 127, 128, 200, 8191, 8192]).collect();
     Family::new("names up to the capacity", sizes.len(), move |job, sink| {
-        let slots = sizes[job];
-        let full = capacity(slots);
-        let settings: &[u8] = if slots > 1000 { &[DEFAULT, DEFAULT | EXPAND] } else { &[DEFAULT, !DEFAULT, DEFAULT | EXPAND, 0, 255] };
-        for names in [full.saturating_sub(1), full, full + 1] {
-            for name in ["a", "", "n\u{e9}me x='1'"] {
-                let opened = format!("<{name}>").repeat(names);
-                let closer = format!("</{}>", name.split(' ').next().unwrap_or_default());
-                sink.each(opened.as_bytes(), settings, slots)?;
-                sink.each(format!("{opened}<e/>").as_bytes(), settings, slots)?;
-                sink.each(format!("{opened}t<e/>{}", closer.repeat(names + 1)).as_bytes(), settings, slots)?;
-                sink.each(format!("{opened}</x>{closer}<y>").as_bytes(), settings, slots)?;
-            }
-        }
-        ON
+        let settings: &[u8] = if sizes[job] > 1000 { &[DEFAULT, DEFAULT | EXPAND] } else { &[DEFAULT, !DEFAULT, DEFAULT | EXPAND, 0, 255] };
+        NAMES_OPEN.iter().try_for_each(|name| filled(sink, name, sizes[job], settings))
     })
+}
+
+/// Stacks that hold as many names as may be open, one fewer, and slots for one more and for many more, which hold no more names.
+fn deepest(amount: Amount) -> Family {
+    const FULL: usize = 2 * MOST_NAMES;
+    const SIZES: [usize; 7] = [FULL - 2, FULL - 1, FULL, FULL + 1, FULL + 2, FULL + 9, FULL + 10_000];
+    let names = amount.of(&NAMES_OPEN[..1], &NAMES_OPEN);
+    Family::new("as many names as may be open", SIZES.len() * names.len(), |job, sink| {
+        filled(sink, NAMES_OPEN[job / SIZES.len()], SIZES[job % SIZES.len()], &[DEFAULT, DEFAULT | EXPAND])
+    })
+}
+
+/// As many names open as the stack holds, one fewer and one more, closed again or not.
+fn filled(sink: &mut dyn Sink, name: &str, slots: usize, settings: &[u8]) -> Flow {
+    let full = capacity(slots);
+    for names in [full.saturating_sub(1), full, full + 1] {
+        let opened = format!("<{name}>").repeat(names);
+        let closer = format!("</{}>", name.split(' ').next().unwrap_or_default());
+        sink.each(opened.as_bytes(), settings, slots)?;
+        sink.each(format!("{opened}<e/>").as_bytes(), settings, slots)?;
+        sink.each(format!("{opened}t<e/>{}", closer.repeat(names + 1)).as_bytes(), settings, slots)?;
+        sink.each(format!("{opened}</x>{closer}<y>").as_bytes(), settings, slots)?;
+    }
+    ON
 }
 
 /// Names of many lengths in every kind of tag, closed by themselves, and by names that are shorter, longer or other in one byte.
@@ -110,10 +130,8 @@ const ENDS: &[(&[u8], &[u8], &[u8])] = &[
 
 /// A document of exactly this length: the head, the part again and again, and the tail.
 fn made(head: &[u8], part: &[u8], tail: &[u8], length: usize) -> Vec<u8> {
-    let mut document = head.to_vec();
-    document.extend(part.iter().cycle().take(length.saturating_sub(head.len() + tail.len())));
-    document.extend(tail);
-    document
+    let between = length.saturating_sub(head.len() + tail.len());
+    [head, &part.repeat(between.div_ceil(part.len()))[..between], tail].concat()
 }
 
 /// Lengths around 4,096 and 65,536, where a count might run over.
@@ -133,7 +151,7 @@ fn long(amount: Amount) -> Family {
     })
 }
 
-/// Documents of 16,777,216 bytes, one fewer, and one more, which ours refuses to make a reader of.
+/// Documents of the greatest length, of one byte less, and of one more, which ours refuses to make a reader of.
 fn longest(amount: Amount) -> Family {
     let settings = amount.of(vec![DEFAULT], vec![DEFAULT, !DEFAULT, DEFAULT | TRIM_START, DEFAULT | TRIM_START | TRIM_END]);
     let documents = amount.of(3, ENDS.len());

@@ -65,6 +65,7 @@ pub fn all(amount: Amount, seed: u64) -> Vec<Family> {
     families.extend(utf8::families(amount));
     families.extend(random::families(amount, seed));
     families.extend(files::families(files::found(amount)));
+    families.extend(limits::largest(amount));
     families
 }
 

@@ -17,6 +17,8 @@ use reader::advance;
 use reader::content;
 use state::answer::Kind;
 use state::config::Config;
+use state::limits::MOST;
+use state::limits::SLOTS;
 use state::place::Depth;
 use state::place::Position;
 use state::place::Span;
@@ -24,8 +26,13 @@ use state::run::Made;
 use state::run::Phase;
 use state::run::Reader;
 use tally::tally;
+ghost use Prim.Native.Nat.{_+_, _*_};
 ghost use mathlib.Core.Path.{_≡_};
 ghost use lib.ListN.{length};
+ghost use Rattle.state.specs.Limits.{most, slots};
+
+// The slots that there are to lend: a few more than the most names take.
+const ROOM: usize = SLOTS * MOST + 10;
 
 // Writes the answers below the line, if it has one of the forms.
 pub fn answer(text: &[u8]) {
@@ -47,7 +54,7 @@ fn run_case(text: &[u8], from: usize) {
     let mut space = io::buffer();
     let n = bytes(text, slots.next, &mut space);
     let document = &space[..n];
-    let mut stack = [0usize; 8200];
+    let mut stack = [0usize; ROOM];
     let lent = lent(slots.value, &stack);
     run(document, &mut stack[..lent], settings);
 }
@@ -126,10 +133,10 @@ fn state_case(text: &[u8], from: usize) {
 }
 
 // A stack with the values that stand after the space at `from`, and 0 in the slots after them.
-fn filled(text: &[u8], from: usize) -> [usize; 8200]
-    ensures { λ r. ⌜ 8200 ≡ length r ⌝ }
+fn filled(text: &[u8], from: usize) -> [usize; ROOM]
+    ensures { λ r. ⌜ slots * most + 10 ≡ length r ⌝ }
 {
-    let mut stack = [0usize; 8200];
+    let mut stack = [0usize; ROOM];
     values(text, from, &mut stack);
     stack
 }

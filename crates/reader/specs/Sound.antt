@@ -27,7 +27,7 @@ module _ (doc : List ℕ) (r : Reader) where
 unfoldable pub inPlace : List ℕ → Reader → Bool
 inPlace doc r = inPlaceIn doc r (r .phase)
 
--- not: "length differs from the slice's or is over 16,777,216; position over length; depth over capacity; depth above 0 and the top entry not start ≤ end ≤
+-- not: "length differs from the slice's or is over" the longest; "position over length; depth over capacity; depth above 0 and the top entry not start ≤ end ≤
 -- position". At depth 0 the latest name is 0..0, and passes.
 unfoldable pub sound : List ℕ → List ℕ → Reader → Bool
 sound doc stack r =

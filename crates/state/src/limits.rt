@@ -5,10 +5,10 @@ ghost use Rattle.state.specs.Limits.{capacity as capacityOf};
 ghost use Rattle.state.specs.Place.{depthOf};
 
 // The longest document, in bytes.
-pub const LONGEST: usize = 16777216;
+pub const LONGEST: usize = 268435456;
 
 // The most names open at once.
-pub const MOST: usize = 4096;
+pub const MOST: usize = 65535;
 
 // The slots of a lent stack that a name takes: its start and its end.
 pub const SLOTS: usize = 2;

@@ -41,10 +41,10 @@ extern "C" {
 }
 
 /// The most bytes that a document may have.
-pub const LONGEST: usize = 16_777_216;
+pub const LONGEST: usize = 268_435_456;
 
 /// The most names that may be open at once.
-pub const MOST_NAMES: usize = 4096;
+pub const MOST_NAMES: usize = 65_535;
 
 /// The slots of the stack that a name takes: its start and its end.
 pub const NAME_SLOTS: usize = 2;

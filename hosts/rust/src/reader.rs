@@ -14,6 +14,9 @@ pub use crate::config::Config;
 /// Whatever the bytes are, every call gives an event or a refusal with a number, nothing panics, and [`Eof`](Event::Eof) comes by
 /// call number length + 2, if the document is not longer than [`LONGEST`](crate::LONGEST).
 ///
+/// On the heap a reader takes room for open names, 16 bytes for each: for a few at first. Where all of it is taken it is doubled before the next
+/// call, up to room for [`MOST_NAMES`](crate::MOST_NAMES), which is 1 MiB.
+///
 /// ```
 /// use sporebasket::{Event, Reader};
 ///
@@ -75,7 +78,7 @@ pub enum Phase {
 }
 
 impl<'a> Reader<'a> {
-    /// A reader over bytes, with the default settings and room for [`MOST_NAMES`] open names.
+    /// A reader over bytes, with the default settings. As many names may be open as [`MOST_NAMES`]; the room for them is taken as they open.
     ///
     /// ```
     /// use sporebasket::{Error, Event, Reader};
@@ -101,7 +104,9 @@ impl<'a> Reader<'a> {
         Reader::from_reader(document.as_bytes())
     }
 
-    /// A reader with room for fewer open names, which takes at most 16 bytes for each.
+    /// A reader in which at most so many names may be open, and never more than [`MOST_NAMES`]: a name more is refused
+    /// ([`NameStackFull`](Error::NameStackFull)). The bound is fixed. The room is taken as names open, and is never more than 16 bytes for each
+    /// name that is asked for.
     ///
     /// ```
     /// use sporebasket::{Error, Reader};
@@ -370,18 +375,30 @@ impl fmt::Debug for Reader<'_> {
 
 #[cfg(test)]
 mod tests {
-    use super::{Event, Reader, FIRST_NAMES, NAME_SLOTS};
+    use super::{Event, Reader, FIRST_NAMES, MOST_NAMES, NAME_SLOTS};
 
     #[test]
-    fn room_for_the_names_that_are_open_and_no_more_than_was_asked_for() {
-        let document = "<a>".repeat(100);
-        for names in [0, 1, 2, 31, 32, 33, 65, 100, 4096] {
-            let mut reader = Reader::with_capacity(document.as_bytes(), names);
+    fn room_grows_before_a_call_that_could_need_it_and_to_no_more_than_was_asked_for() {
+        let document = "<a>".repeat(MOST_NAMES + 1);
+        for asked in [0, 1, 2, 31, 32, 33, 65, 100, MOST_NAMES - 1, MOST_NAMES, MOST_NAMES + 1] {
+            let names = asked.min(MOST_NAMES);
+            let mut reader = Reader::with_capacity(document.as_bytes(), asked);
+            let mut room = 0;
             assert_eq!(reader.stack.capacity(), 0);
-            while reader.read_event() != Ok(Event::Eof) {
-                let room = (2 * reader.depth()).max(FIRST_NAMES).min(names);
-                assert!(reader.stack.capacity() <= room * NAME_SLOTS);
+            loop {
+                let depth = reader.depth();
+                let answer = reader.read_event();
+                let lent = reader.stack.len() / NAME_SLOTS;
+                assert!(lent == room || depth == room, "it grows where it is full");
+                assert!(depth < lent || lent == names, "a call has room for one more name, or for all");
+                let most = (2 * depth).max(FIRST_NAMES).min(names);
+                assert!(reader.stack.capacity() <= most * NAME_SLOTS, "it doubles");
+                room = lent;
+                if answer == Ok(Event::Eof) {
+                    break;
+                }
             }
+            assert_eq!(reader.depth(), names);
         }
     }
 }

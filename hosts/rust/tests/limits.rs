@@ -27,35 +27,68 @@ fn a_byte_more_is_refused_by_every_call() {
     assert_eq!(state, [7; lent::STATE_SLOTS]);
 }
 
+/// Opens names, one in the other, and sees that they are.
+fn open(reader: &mut Reader, names: usize) {
+    for opened in 1..=names {
+        assert!(matches!(reader.read_event(), Ok(Event::Start(_))));
+        assert_eq!(reader.depth(), opened);
+    }
+    assert_eq!(reader.open_names().len(), names);
+    assert!(reader.open_names().all(|name| name == b"a"));
+}
+
+/// The name after so many is refused.
+fn full(reader: &mut Reader, names: usize) {
+    open(reader, names);
+    assert_eq!(reader.read_event(), Err(Error::NameStackFull));
+    assert_eq!(reader.error_position(), 3 * names as u64);
+    assert_eq!(reader.read_event(), Ok(Event::Eof));
+    assert_eq!(reader.open_names().len(), names);
+}
+
 #[test]
-fn as_many_names_as_may_be_and_one_more() {
-    let document = "<a>".repeat(MOST_NAMES + 1);
-    for names in [MOST_NAMES, MOST_NAMES + 1, usize::MAX] {
-        let mut reader = Reader::with_capacity(document.as_bytes(), names);
-        for opened in 1..=MOST_NAMES {
-            assert!(matches!(reader.read_event(), Ok(Event::Start(_))));
-            assert_eq!(reader.depth(), opened);
+fn as_many_names_as_may_be_are_opened_and_closed_again() {
+    for names in [MOST_NAMES - 1, MOST_NAMES] {
+        let document = "<a>".repeat(names) + &"</a>".repeat(names);
+        for mut reader in [
+            Reader::from_str(&document),
+            Reader::with_capacity(document.as_bytes(), names),
+        ] {
+            open(&mut reader, names);
+            for left in (0..names).rev() {
+                assert!(matches!(reader.read_event(), Ok(Event::End(_))));
+                assert_eq!(reader.depth(), left);
+            }
+            assert_eq!(reader.read_event(), Ok(Event::Eof));
         }
-        assert_eq!(reader.read_event(), Err(Error::NameStackFull));
-        assert_eq!(reader.error_position(), 3 * MOST_NAMES as u64);
-        assert_eq!(reader.read_event(), Ok(Event::Eof));
-        assert_eq!(reader.open_names().len(), MOST_NAMES);
-        assert!(reader.open_names().all(|name| name == b"a"));
     }
 }
 
 #[test]
-fn all_names_are_closed_again() {
-    let document = "<a>".repeat(MOST_NAMES) + &"</a>".repeat(MOST_NAMES);
-    let mut reader = Reader::from_str(&document);
-    let events: Vec<_> = (0..2 * MOST_NAMES).map(|_| reader.read_event()).collect();
-    assert!(events[..MOST_NAMES]
-        .iter()
-        .all(|event| matches!(event, Ok(Event::Start(_)))));
-    assert!(events[MOST_NAMES..]
-        .iter()
-        .all(|event| matches!(event, Ok(Event::End(_)))));
-    assert_eq!((reader.read_event(), reader.depth()), (Ok(Event::Eof), 0));
+fn a_name_more_is_refused_whatever_was_asked_for() {
+    let document = "<a>".repeat(MOST_NAMES + 1);
+    full(&mut Reader::from_str(&document), MOST_NAMES);
+    for asked in [MOST_NAMES - 1, MOST_NAMES, MOST_NAMES + 1, usize::MAX] {
+        let mut reader = Reader::with_capacity(document.as_bytes(), asked);
+        full(&mut reader, asked.min(MOST_NAMES));
+    }
+}
+
+#[test]
+fn a_name_more_is_refused_whatever_is_lent() {
+    let document = "<a>".repeat(MOST_NAMES + 1);
+    for slots in [0, 1, 2].map(|more| MOST_NAMES * lent::NAME_SLOTS + more) {
+        let mut stack = vec![7; slots];
+        let mut state = [0; lent::STATE_SLOTS];
+        let mut answer = [0; lent::ANSWER_SLOTS];
+        assert_eq!(lent::new(document.as_bytes(), lent::default_settings(), &mut state), 0);
+        for _ in 0..MOST_NAMES {
+            assert_eq!(lent::read_event(document.as_bytes(), &mut stack, &mut state, &mut answer), 0);
+        }
+        assert_eq!(lent::read_event(document.as_bytes(), &mut stack, &mut state, &mut answer), 15);
+        assert_eq!(state[2], MOST_NAMES);
+        assert!(stack[MOST_NAMES * lent::NAME_SLOTS..].iter().all(|&slot| slot == 7));
+    }
 }
 
 #[test]

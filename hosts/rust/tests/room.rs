@@ -66,8 +66,11 @@ impl<'a> Both<'a> {
     }
 }
 
-/// Where a stack that doubles may be full, and beside it.
-const CAPACITIES: [usize; 15] = [0, 1, 2, 3, 31, 32, 33, 63, 64, 65, 127, 128, 129, 4095, MOST_NAMES];
+/// Where a stack that doubles may be full, and beside it, up to as many names as may be.
+fn capacities() -> impl Iterator<Item = usize> {
+    let borders = (5..16).flat_map(|power| (1 << power) - 1..=(1 << power) + 1);
+    (0..=3).chain(borders).chain([MOST_NAMES - 1, MOST_NAMES])
+}
 
 /// As many elements, one in the other, with names of different lengths.
 fn nested(depth: usize) -> String {
@@ -79,7 +82,7 @@ fn nested(depth: usize) -> String {
 
 #[test]
 fn a_name_too_many_is_refused_at_the_capacity() {
-    for names in CAPACITIES.into_iter().chain([usize::MAX]) {
+    for names in capacities().chain([MOST_NAMES + 1, usize::MAX]) {
         let document = nested(names.min(MOST_NAMES) + 1);
         let mut both = Both::new(document.as_bytes(), names);
         for _ in 0..names.min(MOST_NAMES) {
@@ -94,7 +97,7 @@ fn a_name_too_many_is_refused_at_the_capacity() {
 
 #[test]
 fn as_many_names_as_the_capacity_are_closed_again() {
-    for names in CAPACITIES {
+    for names in capacities() {
         let document = nested(names);
         let mut both = Both::new(document.as_bytes(), names);
         for calls in 1..=2 * names {

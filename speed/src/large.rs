@@ -1,0 +1,89 @@
+//! What size costs: the time a byte as ratios to the crate's, and the memory beside the document, up to the limits of a document.
+
+use crate::check::told;
+use crate::clock::{least, ratio, rounds, Row, Samples};
+use crate::grid::{self, grouped, joined};
+use crate::inputs;
+use crate::memory::{used, Used};
+use crate::runners::{Runner, Settings};
+use crate::worst::nesting;
+use sporebasket::{lent, Reader, LONGEST, MOST_NAMES};
+
+type Runners = [Box<dyn Runner>];
+
+/// The lengths that the inputs are made at, each sixteen times the one before.
+const LENGTHS: [usize; 3] = [LONGEST / 256, LONGEST / 16, LONGEST];
+/// How many rounds there are.
+const ROUNDS: usize = 7;
+/// The ratio at the last length may be so many times that at the first: more is a cost of size.
+const LIMIT: f64 = 1.5;
+
+/// What is read: the inputs of the table, and as many names as may be open.
+fn documents() -> impl Iterator<Item = (String, fn(usize) -> Vec<u8>)> {
+    let table = inputs::TABLE.iter().map(|input| (input.name.to_string(), input.make));
+    table.chain([("names".to_string(), (|length| nesting(length, MOST_NAMES)) as fn(usize) -> Vec<u8>)])
+}
+
+/// Measures and prints. The first runner is the crate; the others are held to the limit.
+pub fn run(runners: &mut Runners) -> Result<(), String> {
+    println!("rounds:    {ROUNDS}: the least of the times, and the medians of the rounds' ratios");
+    println!("names:     {} elements, one in the other, with names as long as fit", grouped(MOST_NAMES));
+    let (mut times, mut memory, mut above) = (Vec::new(), Vec::new(), Vec::new());
+    for (name, make) in documents() {
+        let rows = LENGTHS.map(|length| Row { name: name.clone(), document: make(length), settings: Settings::default() });
+        rows.iter().try_for_each(|row| told(row, runners).map(drop))?;
+        memory.push(taken(&rows[LENGTHS.len() - 1], runners));
+        times.push(timed(&rows, runners, &mut above));
+    }
+    println!("\nAt {} bytes, nanoseconds a byte of {}, and the ratios of the others to it:\n", LENGTHS.map(grouped).join(" / "), runners[0].name());
+    let names = |runners: &Runners| runners.iter().map(|runner| runner.name().to_string()).collect::<Vec<_>>();
+    let head: Vec<String> = ["input".into()].into_iter().chain(names(runners)).collect();
+    grid::print(&head.iter().map(String::as_str).collect::<Vec<_>>(), &times);
+    println!("\nBytes beside the document, at {} of them: on the heap / by what the process had at most, in whole pages:\n", grouped(LONGEST));
+    let head: Vec<String> = ["input".into(), "names open".into()].into_iter().chain(names(runners)).chain(["lent".into()]).collect();
+    grid::print(&head.iter().map(String::as_str).collect::<Vec<_>>(), &memory);
+    println!("\n`lent` is what a host of the C functions has to lend for that: a state, an answer, and two slots for each name that is open at once.");
+    if !above.is_empty() {
+        return Err(format!("the ratio at the greatest length is more than {LIMIT} times that at the least: {}", above.join("; ")));
+    }
+    println!("\nspeed: no ratio at the greatest length is more than {LIMIT} times that at the least");
+    Ok(())
+}
+
+/// A line of times.
+fn timed(rows: &[Row], runners: &mut Runners, above: &mut Vec<String>) -> Vec<String> {
+    let samples = rounds(rows, runners, ROUNDS);
+    let bytes: Vec<f64> = rows.iter().zip(&samples).map(|(row, samples)| least(&samples[0]) / row.document.len() as f64).collect();
+    let mut line = vec![rows[0].name.clone(), joined(&bytes, 3)];
+    for column in 1..runners.len() {
+        let ratios: Vec<f64> = samples.iter().map(|row: &Vec<Samples>| ratio(&row[column], &row[0])).collect();
+        if ratios[ratios.len() - 1] > LIMIT * ratios[0] {
+            above.push(format!("{}, {}: {}", rows[0].name, runners[column].name(), joined(&ratios, 2)));
+        }
+        line.push(joined(&ratios, 2));
+    }
+    line
+}
+
+/// A line of memory.
+fn taken(row: &Row, runners: &mut Runners) -> Vec<String> {
+    let names = most_open(&row.document);
+    let mut line = vec![row.name.clone(), grouped(names)];
+    for runner in runners.iter_mut() {
+        let Used { heap, resident } = used(|| drop(runner.run(&row.document, row.settings)));
+        line.push(format!("{} / {}", grouped(heap), resident.map_or("-".into(), grouped)));
+    }
+    let slots = lent::STATE_SLOTS + lent::ANSWER_SLOTS + lent::NAME_SLOTS * names;
+    line.push(grouped(slots * size_of::<usize>()));
+    line
+}
+
+/// How many names are open at once at most.
+fn most_open(document: &[u8]) -> usize {
+    let mut reader = Reader::from_reader(document);
+    let mut most = 0;
+    while !matches!(reader.read_event(), Ok(sporebasket::Event::Eof)) {
+        most = most.max(reader.depth());
+    }
+    most
+}
