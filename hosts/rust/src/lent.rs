@@ -65,6 +65,10 @@ pub fn new(document: &[u8], settings: usize, state: &mut [usize]) -> usize {
 /// Lend each call the same document, and the stack and the state as the call before left them. 17: the state is none that a reader
 /// over this document and stack comes to, or there are too few slots.
 ///
+/// A call opens one name at most. So a stack may be short at first, and where it is full a longer one be lent before the next call, with what
+/// the short one held in its first slots: every answer is then as if the longest had been lent from the start. More slots than
+/// [`MOST_NAMES`](crate::MOST_NAMES) take hold no more names.
+///
 /// ```
 /// use sporebasket::lent;
 ///

@@ -26,8 +26,7 @@
 //! are open at once, and a document type is refused. Attributes and references are handed over as they stand.
 //!
 //! Nothing is shared between readers, so each may be used on a thread of its own. A reader allocates
-//! room for open names, when it has none left for one more; a refusal owns the names that it tells. Hosts that lend all memory themselves use [`lent`];
-//! they may lend a longer stack before any call, with what the shorter one held in its first slots.
+//! room for open names, when it has none left for one more; a refusal owns the names that it tells. Hosts that lend all memory themselves use [`lent`].
 #![warn(missing_docs)]
 #![deny(unsafe_code)]
 

@@ -390,7 +390,10 @@ mod tests {
                 let answer = reader.read_event();
                 let lent = reader.stack.len() / NAME_SLOTS;
                 assert!(lent == room || depth == room, "it grows where it is full");
-                assert!(depth < lent || lent == names, "a call has room for one more name, or for all");
+                assert!(
+                    depth < lent || lent == names,
+                    "a call has room for one more name, or for all"
+                );
                 let most = (2 * depth).max(FIRST_NAMES).min(names);
                 assert!(reader.stack.capacity() <= most * NAME_SLOTS, "it doubles");
                 room = lent;

@@ -83,9 +83,15 @@ fn a_name_more_is_refused_whatever_is_lent() {
         let mut answer = [0; lent::ANSWER_SLOTS];
         assert_eq!(lent::new(document.as_bytes(), lent::default_settings(), &mut state), 0);
         for _ in 0..MOST_NAMES {
-            assert_eq!(lent::read_event(document.as_bytes(), &mut stack, &mut state, &mut answer), 0);
+            assert_eq!(
+                lent::read_event(document.as_bytes(), &mut stack, &mut state, &mut answer),
+                0
+            );
         }
-        assert_eq!(lent::read_event(document.as_bytes(), &mut stack, &mut state, &mut answer), 15);
+        assert_eq!(
+            lent::read_event(document.as_bytes(), &mut stack, &mut state, &mut answer),
+            15
+        );
         assert_eq!(state[2], MOST_NAMES);
         assert!(stack[MOST_NAMES * lent::NAME_SLOTS..].iter().all(|&slot| slot == 7));
     }

@@ -28,7 +28,7 @@ pub const WHITE: [Input; 8] = white::INPUTS;
 
 /// What holds for every input.
 pub const RULES: &str = "\
-Each input is one element with whole elements or pieces in it, as many as fit into the length asked for: 65,536 bytes, but for growth. The document \
+Each input is one element with whole elements or pieces in it, as many as fit into the length asked for: 65,536 bytes, but for --growth and --large. The document \
 ends where the next would not fit, so it has the length asked for, or less by less than that one.
 \"Drawn\" is by one generator: x begins at 1, and for a number below n it becomes x * 6364136223846793005 + 1442695040888963407 modulo 2^64, \
 and the number is (x >> 33) modulo n. One of a list is the one at that number, counted from 0; a number from a to b is a and a number below b - a + 1.
