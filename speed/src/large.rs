@@ -4,7 +4,7 @@ use crate::check::told;
 use crate::clock::{least, ratio, rounds, Row, Samples};
 use crate::grid::{self, grouped, joined};
 use crate::inputs;
-use crate::memory::{used, Used};
+use crate::memory::heap;
 use crate::runners::{Runner, Settings};
 use crate::worst::nesting;
 use sporebasket::{lent, Reader, LONGEST, MOST_NAMES};
@@ -35,14 +35,15 @@ pub fn run(runners: &mut Runners) -> Result<(), String> {
         memory.push(taken(&rows[LENGTHS.len() - 1], runners));
         times.push(timed(&rows, runners, &mut above));
     }
-    println!("\nAt {} bytes, nanoseconds a byte of {}, and the ratios of the others to it:\n", LENGTHS.map(grouped).join(" / "), runners[0].name());
-    let names = |runners: &Runners| runners.iter().map(|runner| runner.name().to_string()).collect::<Vec<_>>();
-    let head: Vec<String> = ["input".into()].into_iter().chain(names(runners)).collect();
-    grid::print(&head.iter().map(String::as_str).collect::<Vec<_>>(), &times);
-    println!("\nBytes beside the document, at {} of them: on the heap / by what the process had at most, in whole pages:\n", grouped(LONGEST));
-    let head: Vec<String> = ["input".into(), "names open".into()].into_iter().chain(names(runners)).chain(["lent".into()]).collect();
-    grid::print(&head.iter().map(String::as_str).collect::<Vec<_>>(), &memory);
-    println!("\n`lent` is what a host of the C functions has to lend for that: a state, an answer, and two slots for each name that is open at once.");
+    let columns = |first: &[&'static str]| first.iter().copied().chain(runners.iter().map(|runner| runner.name())).collect::<Vec<_>>();
+    println!(
+        "\nAt {} bytes, nanoseconds a byte of {}, and the ratios of the others to it:\n",
+        LENGTHS.map(grouped).join(" / "),
+        runners[0].name()
+    );
+    grid::print(&columns(&["input"]), &times);
+    println!("\nBytes beside a document of {}: what the C functions are lent for as many open names as it has at once, and what each takes on the heap:\n", grouped(LONGEST));
+    grid::print(&columns(&["input", "names open", "lent"]), &memory);
     if !above.is_empty() {
         return Err(format!("the ratio at the greatest length is more than {LIMIT} times that at the least: {}", above.join("; ")));
     }
@@ -68,13 +69,14 @@ fn timed(rows: &[Row], runners: &mut Runners, above: &mut Vec<String>) -> Vec<St
 /// A line of memory.
 fn taken(row: &Row, runners: &mut Runners) -> Vec<String> {
     let names = most_open(&row.document);
-    let mut line = vec![row.name.clone(), grouped(names)];
-    for runner in runners.iter_mut() {
-        let Used { heap, resident } = used(|| drop(runner.run(&row.document, row.settings)));
-        line.push(format!("{} / {}", grouped(heap), resident.map_or("-".into(), grouped)));
-    }
     let slots = lent::STATE_SLOTS + lent::ANSWER_SLOTS + lent::NAME_SLOTS * names;
-    line.push(grouped(slots * size_of::<usize>()));
+    let mut line = vec![row.name.clone(), grouped(names), grouped(slots * size_of::<usize>())];
+    for runner in runners.iter_mut() {
+        let bytes = heap(|| {
+            runner.run(&row.document, row.settings);
+        });
+        line.push(grouped(bytes));
+    }
     line
 }
 

@@ -1,8 +1,7 @@
-//! How much memory a run takes beside what stood before it.
+//! How much memory a run takes on the heap.
 #![allow(unsafe_code)]
 
 use std::alloc::{GlobalAlloc, Layout, System};
-use std::fs;
 use std::sync::atomic::{AtomicUsize, Ordering::Relaxed};
 
 /// The system's allocator, with a count of the bytes that are taken, and of the most that were.
@@ -28,7 +27,7 @@ unsafe impl GlobalAlloc for Counting {
         unsafe { System.alloc_zeroed(layout) }
     }
 
-    /// The bytes of before may stay until those after are filled: both count.
+    /// The bytes of before stay until those after are filled: both count.
     unsafe fn realloc(&self, block: *mut u8, layout: Layout, size: usize) -> *mut u8 {
         took(size);
         // SAFETY: so too.
@@ -49,29 +48,10 @@ fn took(bytes: usize) {
     MOST.fetch_max(taken, Relaxed);
 }
 
-/// What a run took, in bytes.
-pub struct Used {
-    /// The most that it had on the heap at once.
-    pub heap: usize,
-    /// By how much the most memory that the process had at once is more than what it had before, where the system tells it: its pages.
-    pub resident: Option<usize>,
-}
-
-/// Runs it, and tells what it took.
-pub fn used(run: impl FnOnce()) -> Used {
-    let taken = TAKEN.load(Relaxed);
-    MOST.store(taken, Relaxed);
-    let before = fs::write("/proc/self/clear_refs", "5").ok().and_then(|()| told("VmRSS:"));
+/// Runs it, and tells the most bytes that it had on the heap at once.
+pub fn heap(run: impl FnOnce()) -> usize {
+    let before = TAKEN.load(Relaxed);
+    MOST.store(before, Relaxed);
     run();
-    let after = told("VmHWM:");
-    let resident = before.zip(after).map(|(before, after)| after.saturating_sub(before));
-    Used { heap: MOST.load(Relaxed) - taken, resident }
-}
-
-/// A number of `/proc/self/status`, which has KiB.
-fn told(name: &str) -> Option<usize> {
-    let status = fs::read_to_string("/proc/self/status").ok()?;
-    let line = status.lines().find_map(|line| line.strip_prefix(name))?;
-    let number: usize = line.trim().strip_suffix(" kB")?.parse().ok()?;
-    Some(number * 1024)
+    MOST.load(Relaxed) - before
 }
