@@ -15,7 +15,7 @@ pub use crate::config::Config;
 /// call number length + 2, if the document is not longer than [`LONGEST`](crate::LONGEST).
 ///
 /// On the heap a reader takes room for open names, 16 bytes for each: for a few at first. Where all of it is taken it is doubled before the next
-/// call, up to room for [`MOST_NAMES`](crate::MOST_NAMES), which is 1 MiB.
+/// call, up to room for [`MOST_NAMES`], which is 1 MiB.
 ///
 /// ```
 /// use sporebasket::{Event, Reader};
