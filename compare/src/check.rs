@@ -400,9 +400,9 @@ impl<E: Engine> Bench<E> {
     }
 }
 
-/// Whether all open names are looked at after this call: where many are open, so seldom that it takes no longer than the calls.
+/// Whether all open names are looked at after this call: where many are open, so seldom that it comes to some 64 names a call.
 fn looked_through(call: usize, depth: usize) -> bool {
-    call.is_multiple_of(depth.next_power_of_two().max(SMALL))
+    call.is_multiple_of((depth / SMALL).next_power_of_two().max(SMALL))
 }
 
 /// The state and the answer are lent with as many slots as they have, or, for a document of odd length, with more.

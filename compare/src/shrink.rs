@@ -44,18 +44,25 @@ fn smaller(kept: &Kept) -> impl Iterator<Item = Kept> + '_ {
     cut.chain(plain).chain(fewer).chain(same)
 }
 
+/// How many bytes are read at most to find a smaller input.
+const BYTES: usize = 1 << 33;
+
 /// The smallest input found on which the two sides still differ in one of these fields.
 pub fn shrink<E: Engine>(bench: &mut Bench<E>, kept: &Kept, difference: Difference) -> (Kept, Difference) {
     let mut tally = Tally::default();
     let mut best = (kept.clone(), difference);
-    let mut tries = 3_000;
+    let (mut tries, mut bytes) = (3_000, BYTES);
     loop {
         let mut again = |next: Kept| {
             tries -= 1;
             let found = bench.run(&next.case(), &mut tally).err()?;
             (found.fields & difference.fields != 0).then_some((next, found))
         };
-        let next = smaller(&best.0).take(1_000).find_map(&mut again);
+        let within = |next: &Kept| {
+            bytes = bytes.saturating_sub(next.document.len());
+            bytes > 0
+        };
+        let next = smaller(&best.0).take(1_000).take_while(within).find_map(&mut again);
         match next {
             Some(next) if tries > 0 => best = next,
             _ => return best,

@@ -21,8 +21,8 @@ struct lent {
     size_t answer[SPOREBASKET_ANSWER_SLOTS];
 };
 
-/* Makes a stack that is full twice as long, if more names may be open. A call opens one name at most, so one that has room for it answers as if all
- * room were there. 0 if there is no memory. */
+/* Makes a stack that is full twice as long, if more names may be open, and one that is not there yet: a pointer that is lent is not null. A call opens
+ * one name at most, so one that has room for it answers as if all room were there. 0 if there is no memory. */
 static int make_room(struct lent *lent)
 {
     size_t names = 2 * lent->names;
@@ -78,7 +78,8 @@ static int list(const uint8_t *document, size_t length, struct lent *lent)
     return 1;
 }
 
-/* The whole of a file; of one that is longer than a document may be, one byte more than that. NULL if it can't be read. */
+/* The whole of a file, not null even if it is empty; of one that is longer than a document may be, one byte more than that. NULL if it can't be read,
+ * or there is no memory. */
 static uint8_t *whole(FILE *in, size_t *length)
 {
     const size_t most = (size_t)SPOREBASKET_LONGEST + 1;

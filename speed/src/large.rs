@@ -19,9 +19,9 @@ const ROUNDS: usize = 7;
 const LIMIT: f64 = 1.5;
 
 /// What is read: the inputs of the table, and as many names as may be open.
-fn documents() -> impl Iterator<Item = (String, fn(usize) -> Vec<u8>)> {
-    let table = inputs::TABLE.iter().map(|input| (input.name.to_string(), input.make));
-    table.chain([("names".to_string(), (|length| nesting(length, MOST_NAMES)) as fn(usize) -> Vec<u8>)])
+fn documents() -> impl Iterator<Item = (&'static str, fn(usize) -> Vec<u8>)> {
+    let names: fn(usize) -> Vec<u8> = |length| nesting(length, MOST_NAMES);
+    inputs::TABLE.iter().map(|input| (input.name, input.make)).chain([("names", names)])
 }
 
 /// Measures and prints. The first runner is the crate; the others are held to the limit.
@@ -30,7 +30,7 @@ pub fn run(runners: &mut Runners) -> Result<(), String> {
     println!("names:     {} elements, one in the other, with names as long as fit", grouped(MOST_NAMES));
     let (mut times, mut memory, mut above) = (Vec::new(), Vec::new(), Vec::new());
     for (name, make) in documents() {
-        let rows = LENGTHS.map(|length| Row { name: name.clone(), document: make(length), settings: Settings::default() });
+        let rows = LENGTHS.map(|length| Row { name: name.into(), document: make(length), settings: Settings::default() });
         rows.iter().try_for_each(|row| told(row, runners).map(drop))?;
         memory.push(taken(&rows[LENGTHS.len() - 1], runners));
         times.push(timed(&rows, runners, &mut above));
@@ -42,7 +42,8 @@ pub fn run(runners: &mut Runners) -> Result<(), String> {
         runners[0].name()
     );
     grid::print(&columns(&["input"]), &times);
-    println!("\nBytes beside a document of {}: what the C functions are lent for as many open names as it has at once, and what each takes on the heap:\n", grouped(LONGEST));
+    println!("\nBytes beside a document of {}: what the C functions are lent for as many open names as it has at once,", grouped(LONGEST));
+    println!("and what each takes on the heap at most:\n");
     grid::print(&columns(&["input", "names open", "lent"]), &memory);
     if !above.is_empty() {
         return Err(format!("the ratio at the greatest length is more than {LIMIT} times that at the least: {}", above.join("; ")));

@@ -22,7 +22,7 @@ use std::process::ExitCode;
 use std::{env, fs};
 
 const USAGE: &str = "\
-usage: speed [--quick | --rounds N] [--trim] [--beside NAME=PATH] [--also NAME=PATH].. | [--growth | --large] [--also NAME=PATH].. | --describe | --write FOLDER";
+usage: speed [--quick | --rounds N] [--trim] [--beside NAME=PATH] [--also NAME=PATH].. | (--growth | --large) [--also NAME=PATH].. | --describe | --write FOLDER";
 
 /// How many rounds there are: enough for the times to settle, and for a look.
 const ROUNDS: usize = 1000;

@@ -363,6 +363,12 @@ const NUMBERS: &[Fault] = &[
     act("0 is returned for 12", |c| c.number() == 12, |c| c.returned = Some(0)),
 ];
 
+/// No room for the name of a Start.
+fn full(c: &mut Call) {
+    c.refuse(STACK_FULL, 0);
+    c.state[DEPTH] -= 1;
+}
+
 const STACKS: &[Fault] = &[
     act("10 keeps the name", |c| c.number() == MISMATCHED, |c| c.state[DEPTH] += 1),
     act(
@@ -404,30 +410,8 @@ const STACKS: &[Fault] = &[
         |c| c.kind() == START && c.before[DEPTH] > 0,
         |c| c.stack[2 * c.before[DEPTH] + 1] = c.answer[CONTENT_TO],
     ),
-    act(
-        "15 one name too early",
-        |c| c.kind() == START && c.state[DEPTH] == capacity(c.stack.len()),
-        |c| {
-            c.refuse(STACK_FULL, 0);
-            c.state[DEPTH] -= 1
-        },
-    ),
-    act(
-        "15 for the last name that may be open",
-        |c| c.kind() == START && c.state[DEPTH] == MOST_NAMES,
-        |c| {
-            c.refuse(STACK_FULL, 0);
-            c.state[DEPTH] -= 1
-        },
-    ),
-    act(
-        "15 for the 4,097th name",
-        |c| c.kind() == START && c.state[DEPTH] == 4097,
-        |c| {
-            c.refuse(STACK_FULL, 0);
-            c.state[DEPTH] -= 1
-        },
-    ),
+    act("15 one name too early", |c| c.kind() == START && c.state[DEPTH] == capacity(c.stack.len()), full),
+    act("15 for the last name that may be open", |c| c.kind() == START && c.state[DEPTH] == MOST_NAMES, full),
     act(
         "a name more than may be open on a larger stack",
         |c| c.number() == STACK_FULL && c.before[DEPTH] == MOST_NAMES && c.stack.len() > 2 * MOST_NAMES + 1,
@@ -488,8 +472,8 @@ const ENDS: &[Fault] = &[
 const LENT: &[Fault] = &[
     making("a reader begins behind the first byte", |number, state| state[POSITION] += (*number == 0) as usize),
     making("a reader begins in text", |number, state| state[PHASE] += (*number == 0) as usize),
-    making("16 for a document of 16,777,217 bytes", |number, state| {
-        if *number == 0 && state[LENGTH] > 16_777_216 {
+    making("16 for a document of the greatest length", |number, state| {
+        if *number == 0 && state[LENGTH] == LONGEST {
             *number = TOO_LONG
         }
     }),

@@ -23,7 +23,7 @@ fn short() -> Family {
 /// What stands in the opening tags of names that are open at once.
 const NAMES_OPEN: [&str; 3] = ["a", "", "n\u{e9}me x='1'"];
 
-/// Small stacks, and one of some thousand slots.
+/// Small stacks, and two of some thousand slots.
 fn deep() -> Family {
     let sizes: Vec<usize> = (0..=40).chain([63, 64, 65, 127, 128, 200, 8191, 8192]).collect();
     Family::new("names up to the capacity", sizes.len(), move |job, sink| {

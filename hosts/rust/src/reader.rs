@@ -105,8 +105,8 @@ impl<'a> Reader<'a> {
     }
 
     /// A reader in which at most so many names may be open, and never more than [`MOST_NAMES`]: a name more is refused
-    /// ([`NameStackFull`](Error::NameStackFull)). The bound is fixed. The room is taken as names open, and is never more than 16 bytes for each
-    /// name that is asked for.
+    /// ([`NameStackFull`](Error::NameStackFull)). The bound is fixed. The room is taken as names open, and ends at 16 bytes for each name
+    /// that is asked for.
     ///
     /// ```
     /// use sporebasket::{Error, Reader};
@@ -377,31 +377,37 @@ impl fmt::Debug for Reader<'_> {
 mod tests {
     use super::{Event, Reader, FIRST_NAMES, MOST_NAMES, NAME_SLOTS};
 
+    /// Reads a document that opens more names than may be, and sees the room before and after each call. Settings that may have changed make no room.
+    fn room_doubles_where_it_is_full(asked: usize, changed: bool) {
+        let names = asked.min(MOST_NAMES);
+        let document = "<a>".repeat(names + 1);
+        let mut reader = Reader::with_capacity(document.as_bytes(), asked);
+        loop {
+            let (depth, room) = (reader.depth(), reader.stack.len() / NAME_SLOTS);
+            if changed {
+                reader.config_mut();
+            }
+            let answer = reader.read_event();
+            let full = depth == room;
+            let wanted = if full {
+                (2 * room).max(FIRST_NAMES).min(names)
+            } else {
+                room
+            };
+            assert_eq!(reader.stack.len(), wanted * NAME_SLOTS);
+            assert_eq!(reader.stack.capacity(), reader.stack.len());
+            if answer == Ok(Event::Eof) {
+                break;
+            }
+        }
+        assert_eq!(reader.depth(), names);
+    }
+
     #[test]
     fn room_grows_before_a_call_that_could_need_it_and_to_no_more_than_was_asked_for() {
-        let document = "<a>".repeat(MOST_NAMES + 1);
         for asked in [0, 1, 2, 31, 32, 33, 65, 100, MOST_NAMES - 1, MOST_NAMES, MOST_NAMES + 1] {
-            let names = asked.min(MOST_NAMES);
-            let mut reader = Reader::with_capacity(document.as_bytes(), asked);
-            let mut room = 0;
-            assert_eq!(reader.stack.capacity(), 0);
-            loop {
-                let depth = reader.depth();
-                let answer = reader.read_event();
-                let lent = reader.stack.len() / NAME_SLOTS;
-                assert!(lent == room || depth == room, "it grows where it is full");
-                assert!(
-                    depth < lent || lent == names,
-                    "a call has room for one more name, or for all"
-                );
-                let most = (2 * depth).max(FIRST_NAMES).min(names);
-                assert!(reader.stack.capacity() <= most * NAME_SLOTS, "it doubles");
-                room = lent;
-                if answer == Ok(Event::Eof) {
-                    break;
-                }
-            }
-            assert_eq!(reader.depth(), names);
+            room_doubles_where_it_is_full(asked, false);
+            room_doubles_where_it_is_full(asked, true);
         }
     }
 }

@@ -27,6 +27,20 @@ fn a_byte_more_is_refused_by_every_call() {
     assert_eq!(state, [7; lent::STATE_SLOTS]);
 }
 
+#[test]
+fn a_state_over_a_byte_more_is_refused() {
+    let document = vec![b'a'; LONGEST + 1];
+    for (length, number) in [(LONGEST, 0), (LONGEST + 1, 17)] {
+        let mut state = [0, 0, 0, length, lent::default_settings()];
+        let mut answer = [0; lent::ANSWER_SLOTS];
+        assert_eq!(
+            lent::read_event(&document[..length], &mut [], &mut state, &mut answer),
+            number
+        );
+        assert_eq!(state[1], if number == 0 { length } else { 0 });
+    }
+}
+
 /// Opens names, one in the other, and sees that they are.
 fn open(reader: &mut Reader, names: usize) {
     for opened in 1..=names {
