@@ -36,8 +36,8 @@ fn deep() -> Family {
 fn deepest(amount: Amount) -> Family {
     const FULL: usize = 2 * MOST_NAMES;
     const SIZES: [usize; 7] = [FULL - 2, FULL - 1, FULL, FULL + 1, FULL + 2, FULL + 9, FULL + 10_000];
-    let names = amount.of(&NAMES_OPEN[..1], &NAMES_OPEN);
-    Family::new("as many names as may be open", SIZES.len() * names.len(), |job, sink| {
+    let names = amount.of(1, NAMES_OPEN.len());
+    Family::new("as many names as may be open", SIZES.len() * names, |job, sink| {
         filled(sink, NAMES_OPEN[job / SIZES.len()], SIZES[job % SIZES.len()], &[DEFAULT, DEFAULT | EXPAND])
     })
 }

@@ -30,14 +30,17 @@ fn a_byte_more_is_refused_by_every_call() {
 #[test]
 fn a_state_over_a_byte_more_is_refused() {
     let document = vec![b'a'; LONGEST + 1];
+    let settings = lent::default_settings();
     for (length, number) in [(LONGEST, 0), (LONGEST + 1, 17)] {
-        let mut state = [0, 0, 0, length, lent::default_settings()];
+        let fresh = [0, 0, 0, length, settings];
+        let mut state = fresh;
         let mut answer = [0; lent::ANSWER_SLOTS];
         assert_eq!(
             lent::read_event(&document[..length], &mut [], &mut state, &mut answer),
             number
         );
-        assert_eq!(state[1], if number == 0 { length } else { 0 });
+        let done = [5, length, 0, length, settings];
+        assert_eq!(state, if number == 0 { done } else { fresh });
     }
 }
 
