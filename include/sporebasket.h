@@ -23,7 +23,7 @@ _Static_assert(sizeof(size_t) == 8, "a slot has 8 bytes");
 extern "C" {
 #endif
 
-/* The settings, a bit each. */
+/* The settings, a bit each. With CHECK_OPEN_NAMES, which quick-xml has not, a document that ends while names are open is refused (18). */
 enum {
     SPOREBASKET_ALLOW_DANGLING_AMP = 1,
     SPOREBASKET_ALLOW_UNMATCHED_ENDS = 2,
@@ -32,16 +32,20 @@ enum {
     SPOREBASKET_EXPAND_EMPTY_ELEMENTS = 16,
     SPOREBASKET_TRIM_MARKUP_NAMES_IN_CLOSING_TAGS = 32,
     SPOREBASKET_TRIM_TEXT_START = 64,
-    SPOREBASKET_TRIM_TEXT_END = 128
+    SPOREBASKET_TRIM_TEXT_END = 128,
+    SPOREBASKET_CHECK_OPEN_NAMES = 256
 };
 
-/* The slots of a reader's state, and its phases. */
+/* The slots of a reader's state, and its phases. The MARK remembers that the end was told: 0 is off, any other number is on, and none is a
+ * reason for 17. A fresh reader has 0. End of file turns the mark on, and so do refusals 1 to 8, 13 to 15 and 18: they write 1 where 0 stands. Another number
+ * stays as it is, and no call turns the mark off. */
 enum {
     SPOREBASKET_STATE_PHASE,
     SPOREBASKET_STATE_POSITION,
     SPOREBASKET_STATE_DEPTH,
     SPOREBASKET_STATE_LENGTH,
     SPOREBASKET_STATE_SETTINGS,
+    SPOREBASKET_STATE_MARK,
     SPOREBASKET_STATE_SLOTS
 };
 enum {
@@ -55,8 +59,8 @@ enum {
 
 /* The slots of an answer, and the kinds of an event. Of an event NUMBER and PLACE are 0; of a refusal KIND, the content and NAME are; EXPECTED
  * and FOUND are 0 but in refusals 10 and 11 (11 has no EXPECTED). The PLACE of a refusal is where its piece begins, but in refusal 9, where it is the
- * first hyphen of the first pair, and in refusal 13, where it is the first byte of the first sequence of the piece that is not UTF-8. A span is its
- * first byte's place in the document and the place after its last. */
+ * first hyphen of the first pair, in refusal 13, where it is the first byte of the first sequence of the piece that is not UTF-8, and in refusal 18, where
+ * it is the first byte of the latest open name. A span is its first byte's place in the document and the place after its last. */
 enum {
     SPOREBASKET_ANSWER_KIND,
     SPOREBASKET_ANSWER_NUMBER,
@@ -92,7 +96,8 @@ enum {
     SPOREBASKET_PART_SLOTS
 };
 
-/* The refusals. */
+/* The refusals. 18 is given where end of file is due, CHECK_OPEN_NAMES is on, a name is open and the MARK is off. So it comes once, instead of the first end of
+ * file, and not after a refusal that ended the run (1 to 8, 13 to 15). Its piece is that of the end of file, and it takes no name away; end of file follows. */
 enum {
     SPOREBASKET_UNCLOSED_TAG = 1,
     SPOREBASKET_UNCLOSED_SINGLE_QUOTED_ATTRIBUTE_VALUE,
@@ -110,7 +115,8 @@ enum {
     SPOREBASKET_DOCTYPE,
     SPOREBASKET_NAME_STACK_FULL,
     SPOREBASKET_SLICE_TOO_LONG,
-    SPOREBASKET_BAD_STATE
+    SPOREBASKET_BAD_STATE,
+    SPOREBASKET_UNCLOSED_ELEMENTS
 };
 
 /* A document has at most this many bytes, and at most this many names are open, each in two slots of the stack; a longer stack holds no more. */

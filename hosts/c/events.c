@@ -1,4 +1,5 @@
-/* Lists the events of a document, from a file or standard input, by the C interface: a line to each answer, up to the end of file.
+/* Lists the events of a document, from a file or standard input, by the C interface: a line to each answer, up to the end of file. With
+ * --check-open-names before the file's name a document that ends while names are open is refused (18) before its end of file.
  *
  *   cc -I include hosts/c/events.c target/host/libcapi.a -o events
  */
@@ -6,6 +7,7 @@
 
 #include <stdio.h>
 #include <stdlib.h>
+#include <string.h>
 
 /* The words of the kinds, by their numbers. */
 static const char *const words[] = {
@@ -59,9 +61,15 @@ static void say(const size_t *answer)
 }
 
 /* 0 if there is no memory for the open names. */
-static int list(const uint8_t *document, size_t length, struct lent *lent)
+static int list(const uint8_t *document, size_t length, int check, struct lent *lent)
 {
-    size_t refusal = sporebasket_new(document, length, sporebasket_default_settings(), lent->state, SPOREBASKET_STATE_SLOTS);
+    size_t settings = sporebasket_default_settings();
+    size_t refusal;
+
+    if (check) {
+        settings |= SPOREBASKET_CHECK_OPEN_NAMES;
+    }
+    refusal = sporebasket_new(document, length, settings, lent->state, SPOREBASKET_STATE_SLOTS);
     if (refusal != 0) {
         printf("%s %zu 0\n", words[0], refusal);
         return 1;
@@ -109,11 +117,12 @@ static uint8_t *whole(FILE *in, size_t *length)
 
 int main(int argc, char **argv)
 {
-    FILE *in = argc > 1 ? fopen(argv[1], "rb") : stdin;
+    int check = argc > 1 && strcmp(argv[1], "--check-open-names") == 0;
+    FILE *in = argc > 1 + check ? fopen(argv[1 + check], "rb") : stdin;
     struct lent lent = {NULL, 0, {0}, {0}};
     size_t length = 0;
     uint8_t *document = in == NULL ? NULL : whole(in, &length);
-    int done = document != NULL && list(document, length, &lent) && fflush(stdout) == 0;
+    int done = document != NULL && list(document, length, check, &lent) && fflush(stdout) == 0;
 
     if (!done) {
         perror("events");

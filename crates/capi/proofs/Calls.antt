@@ -22,7 +22,7 @@ use Rattle.reader.specs.Step.{step, Stepped}
 use Rattle.reader.proofs.Outside.{step-turn}
 use Rattle.demands.proofs.Demand1.{unsound-changes-nothing}
 use Rattle.capi.specs.declared.slots.Held.{Held}
-use Rattle.capi.specs.Numbers.{configOf, stateNumbers, stateSlots, valuesNumbers, answerSlots, heldOf}
+use Rattle.capi.specs.Numbers.{configOf, noted, stateNumbers, stateSlots, valuesNumbers, answerSlots, heldOf}
 use Rattle.capi.specs.Slots.{put, placed, partNumbers, partSlots}
 use Rattle.capi.specs.Calls.{badNumber, madeState, Opened, lentTo, answerTo, Called, Parted}
 use Rattle.capi.proofs.Puts.{put-nothing}
@@ -34,14 +34,14 @@ module _ (doc : List ℕ) where
   module _ (settings : ℕ) (state after : List ℕ) where
     kept : length state < stateSlots → (m : Made) → state ≡ madeState state m
     unfolding stateNumbers
-    kept l (Made.Fresh r) = put-nothing state (stateNumbers r) state l refl
+    kept l (Made.Fresh r) = put-nothing state (stateNumbers 0 r) state l refl
     kept l (Made.Refused x) = refl
 
     pub opened-not : (n : ℕ) → length state < stateSlots → n ≡ badNumber → Opened doc settings state n state
     opened-not n l e = record { said = pick-lt _ _ _ _ _ l e; slots = kept l (made (length doc) (configOf settings)) }
 
     module _ (c : Config) (m : Made) (room : stateSlots ≤ length state) (given : c ≡ configOf settings) (e : m ≡ made (length doc) c) where
-      pub opened-fresh : (r : Reader) → m ≡ Made.Fresh r → after ≡ put state (stateNumbers r) → Opened doc settings state 0 after
+      pub opened-fresh : (r : Reader) → m ≡ Made.Fresh r → after ≡ put state (stateNumbers 0 r) → Opened doc settings state 0 after
       opened-fresh r f p = record { said = pick-nlt _ _ _ _ _ room (rw (← given, ← e, f)); slots = rw (← given, ← e, f) p }
 
       pub opened-refused : (x : Refusal) (v : Values) → m ≡ Made.Refused x → v ≡ refusalValues x → Opened doc settings state (v .number) state
@@ -74,7 +74,7 @@ module _ (doc : List ℕ) where
       lent = sym (pick-nlt _ _ _ _ _ room loaded)
 
       pub called-on : (r : Reader) (s : Step) (stack' state' : List ℕ) → h ≡ Held.Reader r → Stepped doc stack r s stack' → v ≡ valuesOf (s .answer)
-          → state' ≡ put state (take 3 (stateNumbers (s .reader))) → Called doc stack state answer (v .number) stack' state' answer'
+          → state' ≡ put (noted state (s .reader .mark)) (take 3 (stateNumbers 0 (s .reader))) → Called doc stack state answer (v .number) stack' state' answer'
       called-on r s stack' state' is p w q =
           let k : lentTo state answer ≡ Held.Reader r = lent ∙ is in
           let values : v ≡ valuesOf (step doc stack r .answer) = w ∙ ap (λ (t : Step). valuesOf (t .answer)) (p .outcome) in
@@ -83,7 +83,7 @@ module _ (doc : List ℕ) where
             names = rw k (p .slots);
             reader =
                 rw k
-                (q ∙ ap (λ (t : Step). put state (take 3 (stateNumbers (t .reader)))) (p .outcome)
+                (q ∙ ap (λ (t : Step). put (noted state (t .reader .mark)) (take 3 (stateNumbers 0 (t .reader)))) (p .outcome)
                 ∙ moved-is-stored state r (step doc stack r .reader) (sym loaded ∙ is) (kept-on stack r .0) (kept-on stack r .1));
             slots = rw k (told ∙ ap (λ (x : Values). put answer (valuesNumbers x)) values);
           }

@@ -19,7 +19,7 @@ use Rattle.demands.specs.Run.{run}
 use Rattle.demands.specs.Growing.{Enough}
 use Rattle.demands.proofs.Longer.{a-call-with-room-is-the-same-over-a-longer-stack}
 use Rattle.capi.specs.declared.slots.Held.{Held}
-use Rattle.capi.specs.Numbers.{configOf, stateNumbers, valuesNumbers, answerSlots}
+use Rattle.capi.specs.Numbers.{configOf, markSlot, stateNumbers, valuesNumbers, answerSlots}
 use Rattle.capi.specs.Slots.{put}
 use Rattle.capi.specs.Calls.{madeNumber, lentTo, Called}
 use Rattle.capi.specs.Hosts.{Host, HostCalls, none, more, namesOpen, Follows}
@@ -42,7 +42,7 @@ module _ (doc stack state answer : List ℕ) (number : ℕ) (stack' state' answe
           record {
             said = c .said ∙ rw k (ap (λ (s : Step). valuesOf (s .answer) .number) (sym (same .0)));
             names = ap (λ (l : List ℕ). l ++ added) (c .names) ∙ rw k (sym (same .1));
-            reader = c .reader ∙ rw k (ap (λ (s : Step). put state (stateNumbers (s .reader))) (sym (same .0)));
+            reader = c .reader ∙ rw k (ap (λ (s : Step). put state (stateNumbers (markSlot state) (s .reader))) (sym (same .0)));
             slots = c .slots ∙ rw k (ap (λ (s : Step). put answer (valuesNumbers (valuesOf (s .answer)))) (sym (same .0)));
           }
       by Held.Nothing k =

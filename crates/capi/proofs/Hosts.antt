@@ -15,15 +15,16 @@ use Rattle.state.specs.declared.run.Reader.{Reader}
 use Rattle.state.specs.declared.run.Made.{Made}
 use Rattle.state.specs.Limits.{longest}
 use Rattle.state.specs.Make.{fresh, made}
-use Rattle.state.specs.Values.{kindNumber, valuesOf}
-use Rattle.demands.specs.Answers.{isMismatch, count, latestIs}
+use Rattle.state.specs.Values.{kindNumber, valuesOf, endsRun}
+use Rattle.demands.specs.Answers.{isMismatch, isUnclosed, isEnding, count, latestIs, oneIs}
 use Rattle.demands.specs.Run.{World, said, call, run}
 use Rattle.demands.proofs.Demand3.{starts-are-ends-mismatches-and-open, as-many-as-the-depth}
 use Rattle.demands.proofs.Joined.{latest-eof}
+use Rattle.demands.proofs.Unclosed.{a-page-that-ends-with-eof-and-no-refusal-is-whole}
 use Rattle.capi.specs.Numbers.{configOf, valuesNumbers, answerSlots}
 use Rattle.capi.specs.Slots.{put}
 use Rattle.capi.specs.Calls.{madeNumber, Called}
-use Rattle.capi.specs.Hosts.{Heard, Host, HostCalls, none, more, numbersHeard, numbersTold, heardKind, heardNumber, namesOpen, Holds, Follows}
+use Rattle.capi.specs.Hosts.{Heard, Host, HostCalls, none, more, numbersHeard, numbersTold, heardKind, heardNumber, heardEnding, namesOpen, Holds, Follows}
 use Rattle.capi.proofs.Rounds.{holds}
 use Rattle.capi.proofs.Runs.{a-host's-reader-is-a-run's, a-host's-call-is-the-run's}
 
@@ -62,12 +63,15 @@ a-host-can-call doc stack settings short (suc n) =
 
 module _ (is : Heard → Bool) (was : Answer → Bool) (agree : (x : Heard) (a : Answer) → numbersHeard x ≡ numbersTold a → is x ≡ was a) where
   same-told : (xs : List Heard) (answers : List Answer) → map numbersHeard xs ≡ map numbersTold answers
-      → (count is xs ≡ count was answers) × (latestIs is xs ≡ latestIs was answers)
-  unfolding count
-  same-told [] [] e = (refl, refl)
+      → (count is xs ≡ count was answers) × (latestIs is xs ≡ latestIs was answers) × (oneIs is xs ≡ oneIs was answers)
+  unfolding count oneIs
+  same-told [] [] e = (refl, refl, refl)
   same-told [] (a ∷ before) e = let z : _≡_ {A = ℕ} 0 1 = cc in absurd (omega arith)
   same-told (x ∷ xs) [] e = let z : _≡_ {A = ℕ} 0 1 = cc in absurd (omega arith)
-  same-told (x ∷ xs) (a ∷ before) e = let now = agree x a (cc) in (rw (now, same-told xs before (cc) .0), now)
+  same-told (x ∷ xs) (a ∷ before) e =
+      let now = agree x a (cc) in
+      let earlier = same-told xs before (cc) in
+      (rw (now, earlier .0), now, rw (now, earlier .2))
 
 -- an event of this kind
 abbrev isKind : Kind → Answer → Bool
@@ -81,6 +85,9 @@ module _ (x : Heard) (a : Answer) (e : numbersHeard x ≡ numbersTold a) where
   same-number : (n : ℕ) → heardNumber n x ≡ eqb (valuesOf a .number) n
   same-number n = ap (λ (vs : List ℕ). eqb (getD vs 0 0) n) e
 
+  same-ending : heardEnding x ≡ isEnding a
+  same-ending = ap (λ (vs : List ℕ). endsRun (getD vs 0 0)) e
+
 -- ---- the demands, in the numbers that a host hears
 
 module _ (doc stack : List ℕ) (settings : ℕ) {n : ℕ} {h : Host} (calls : HostCalls doc stack settings n h) where
@@ -93,23 +100,42 @@ module _ (doc stack : List ℕ) (settings : ℕ) {n : ℕ} {h : Host} (calls : H
   follows : Follows w h
   follows = a-host's-calls-are-a-run doc stack settings calls .1
 
-  heard-kind : (kind : Kind) → (count (heardKind kind) (h .heard) ≡ count (isKind kind) (w .answers)) × (latestIs (heardKind kind) (h .heard) ≡ latestIs (isKind kind) (w .answers))
+  heard-kind : (kind : Kind)
+      → (count (heardKind kind) (h .heard) ≡ count (isKind kind) (w .answers))
+      × (latestIs (heardKind kind) (h .heard) ≡ latestIs (isKind kind) (w .answers))
+      × (oneIs (heardKind kind) (h .heard) ≡ oneIs (isKind kind) (w .answers))
   heard-kind kind = same-told (heardKind kind) (isKind kind) (λ x a e. same-kind x a e kind) (h .heard) (w .answers) (follows .heard)
 
   -- THEOREM: "end of file comes by call number length + 2", and stays
   pub after-length-and-two-calls-a-host-hears-eof : length doc + 2 ≤ n → latestIs (heardKind Kind.Eof) (h .heard) ≡ true
   after-length-and-two-calls-a-host-hears-eof enough = heard-kind Kind.Eof .1 ∙ latest-eof doc stack (configOf settings) short n enough
 
+  open-names : namesOpen h ≡ w .reader .depth .0
+  open-names = ap (λ (r : Reader). r .depth .0) (holds (h .state) (w .reader) (follows .state) .3)
+
   -- THEOREM: "Starts = Ends + mismatches + names open"
   pub a-host's-starts-are-ends-mismatches-and-open : configOf settings .«allow_unmatched_ends» ≡ false
       → count (heardKind Kind.Start) (h .heard) ≡ count (heardKind Kind.End) (h .heard) + count (heardNumber 10) (h .heard) + namesOpen h
   a-host's-starts-are-ends-mismatches-and-open off =
-      let open-names : namesOpen h ≡ w .reader .depth .0 = ap (λ (r : Reader). r .depth .0) (holds (h .state) (w .reader) (follows .state) .3) in
       omega (
         arith,
+        open-names,
         heard-kind Kind.Start .0,
         heard-kind Kind.End .0,
         same-told (heardNumber 10) isMismatch (λ x a e. same-number x a e 10) (h .heard) (w .answers) (follows .heard) .0,
         starts-are-ends-mismatches-and-open doc stack (configOf settings) short off n,
         as-many-as-the-depth doc stack (configOf settings) short n,
       )
+
+  -- THEOREM: open names checked: a host that heard Eof, and neither 18 nor a refusal that ended the run, heard a whole page: no name is open, and Starts = Ends + mismatches
+  pub a-host's-page-that-ends-with-eof-and-no-refusal-is-whole : configOf settings .«check_open_names» ≡ true → configOf settings .«allow_unmatched_ends» ≡ false
+      → oneIs (heardKind Kind.Eof) (h .heard) ≡ true → oneIs (heardNumber 18) (h .heard) ≡ false → oneIs heardEnding (h .heard) ≡ false
+      → (namesOpen h ≡ 0) × (count (heardKind Kind.Start) (h .heard) ≡ count (heardKind Kind.End) (h .heard) + count (heardNumber 10) (h .heard))
+  a-host's-page-that-ends-with-eof-and-no-refusal-is-whole on off eof unclosed ending =
+      let whole =
+      a-page-that-ends-with-eof-and-no-refusal-is-whole doc stack (configOf settings) short on off n
+      (sym (heard-kind Kind.Eof .2) ∙ eof)
+      (sym (same-told (heardNumber 18) isUnclosed (λ x a e. same-number x a e 18) (h .heard) (w .answers) (follows .heard) .2) ∙ unclosed)
+      (sym (same-told heardEnding isEnding same-ending (h .heard) (w .answers) (follows .heard) .2) ∙ ending) in
+      let none : namesOpen h ≡ 0 = open-names ∙ sym (as-many-as-the-depth doc stack (configOf settings) short n) ∙ ap length (whole .0) in
+      (none, omega (arith, none, a-host's-starts-are-ends-mismatches-and-open off))

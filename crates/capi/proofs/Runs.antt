@@ -9,7 +9,7 @@ use lib.Dec.{ltb}
 use borrow.Author.Tests.{eq-eqb, ltb-true, ltb-false}
 use Rattle.ground.specs.Choose.{pick}
 use Rattle.ground.specs.Part.{part, startOf}
-use Rattle.ground.proofs.Choices.{pick-cases, pick-nlt}
+use Rattle.ground.proofs.Choices.{clash, pick-cases, pick-nlt}
 use Rattle.ground.proofs.Lists.{part-in, part-crossed, part-past, at-end}
 use Rattle.state.specs.declared.config.Config.{Config}
 use Rattle.state.specs.declared.place.Span.{Span}
@@ -22,12 +22,13 @@ use Rattle.reader.specs.Step.{step}
 use Rattle.demands.specs.Answers.{isBadState}
 use Rattle.demands.specs.Run.{World, said, call, run}
 use Rattle.demands.proofs.Demand1.{bad-state-exactly-when-unsound, unsound-changes-nothing}
+use Rattle.demands.proofs.Unclosed.{no-call-turns-the-mark-off}
 use Rattle.capi.specs.declared.slots.Held.{Held}
-use Rattle.capi.specs.Numbers.{configOf, stateNumbers, stateSlots, valuesNumbers, answerSlots, heldOf}
+use Rattle.capi.specs.Numbers.{configOf, markSlot, stateNumbers, stateSlots, valuesNumbers, answerSlots, heldOf}
 use Rattle.capi.specs.Slots.{put, placed}
 use Rattle.capi.specs.Calls.{badNumber, madeNumber, madeState, Opened, lentTo, Called}
 use Rattle.capi.specs.Hosts.{Holds}
-use Rattle.capi.proofs.Rounds.{holds, what-is-stored-is-held, what-is-held-is-stored}
+use Rattle.capi.proofs.Rounds.{holds, holds-mark, what-is-stored-is-held, what-is-held-is-stored}
 
 -- a 0 is no refusal of what is lent
 zero-told : (t : Bool) (n : ℕ) → 0 ≡ pick t badNumber n → (t ≡ false) × (0 ≡ n)
@@ -45,7 +46,7 @@ a-host's-reader-is-a-run's doc stack state after settings o =
     (ltb longest (length doc)) _ _
     (λ _ z a. absurd (omega arith))
     (λ e z a.
-    (ltb-false longest (length doc) e, ap heldOf a ∙ what-is-stored-is-held state (fresh (length doc) c) (ltb-false (length state) stateSlots (told .0))))
+    (ltb-false longest (length doc) e, ap heldOf a ∙ what-is-stored-is-held state 0 (fresh (length doc) c) (ltb-false (length state) stateSlots (told .0)) (λ on. clash false on refl)))
     (told .1) (o .slots)
 
 -- what a call tells a host, and what it leaves, where the call is the next one from w
@@ -68,7 +69,8 @@ a-host's-call-is-the-run's doc w state answer number stack' state' answer' h roo
       stack = c .names ∙ rw k refl;
       state =
           ap heldOf (c .reader ∙ rw k refl)
-          ∙ what-is-stored-is-held state (call doc w .reader) (holds state (w .reader) h .0);
+          ∙ what-is-stored-is-held state (markSlot state) (call doc w .reader) (holds state (w .reader) h .0)
+          (λ on. no-call-turns-the-mark-off doc (w .stack) (w .reader) (sym (holds-mark state (w .reader) h) ∙ on));
     }
 
 -- a reader that a call moves on is the state's
@@ -89,7 +91,7 @@ seventeen-changes-nothing doc stack state answer number stack' state' answer' c 
         let bad : isBadState (step doc stack r .answer) ≡ true = eq-eqb (valuesOf (step doc stack r .answer) .number) 17 (sym (c .said ∙ rw k refl) ∙ e) in
         let same = unsound-changes-nothing doc stack r (bad-state-exactly-when-unsound doc stack r .0 bad) in (
           c .names ∙ rw k (same .1),
-          c .reader ∙ rw k (ap (λ (x : Reader). put state (stateNumbers x)) (same .0) ∙ what-is-held-is-stored state r (lent-holds state answer r k)),
+          c .reader ∙ rw k (ap (λ (x : Reader). put state (stateNumbers (markSlot state) x)) (same .0) ∙ what-is-held-is-stored state r (lent-holds state answer r k)),
         )
     by Held.Nothing k = (c .names ∙ rw k refl, c .reader ∙ rw k refl)
 

@@ -13,7 +13,7 @@ use Rattle.state.specs.Values.{numberedOf, valuesOf}
 use Rattle.reader.specs.Names.{written}
 use Rattle.reader.specs.Step.{step}
 use Rattle.capi.specs.declared.slots.Held.{Held}
-use Rattle.capi.specs.Numbers.{configOf, stateNumbers, stateSlots, valuesNumbers, answerSlots, heldOf}
+use Rattle.capi.specs.Numbers.{configOf, stateNumbers, stateSlots, markSlot, valuesNumbers, answerSlots, heldOf}
 use Rattle.capi.specs.Slots.{put, placed, partNumbers, partSlots}
 
 -- 17, "bad state"
@@ -27,7 +27,7 @@ madeNumber (Made.Fresh r) = 0
 madeNumber (Made.Refused x) = numberedOf (x .error) .number
 
 abbrev pub madeState : List ℕ → Made → List ℕ
-madeState state (Made.Fresh r) = put state (stateNumbers r)
+madeState state (Made.Fresh r) = put state (stateNumbers 0 r)
 madeState state (Made.Refused x) = state
 
 -- a fresh reader in the state; 17 where it has too few slots, 16 where the document is too long
@@ -52,7 +52,7 @@ module _ (doc stack : List ℕ) where
   stackTo Held.Nothing = stack
 
   abbrev pub stateTo : List ℕ → Held → List ℕ
-  stateTo state (Held.Reader r) = put state (stateNumbers (step doc stack r .reader))
+  stateTo state (Held.Reader r) = put state (stateNumbers (markSlot state) (step doc stack r .reader))
   stateTo state Held.Nothing = state
 
 -- the next answer; 17 where the state is no reader's, which is left alone then, or where the answer has too few slots, and nothing is written then

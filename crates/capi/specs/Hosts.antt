@@ -8,7 +8,7 @@ use lib.Dec.{eqb}
 use Rattle.state.specs.declared.answer.Kind.{Kind}
 use Rattle.state.specs.declared.answer.Answer.{Answer}
 use Rattle.state.specs.declared.run.Reader.{Reader}
-use Rattle.state.specs.Values.{kindNumber, valuesOf}
+use Rattle.state.specs.Values.{kindNumber, valuesOf, endsRun}
 use Rattle.demands.specs.Run.{World}
 use Rattle.capi.specs.declared.slots.Held.{Held}
 use Rattle.capi.specs.Numbers.{valuesNumbers, answerSlots, heldOf}
@@ -45,6 +45,10 @@ heardKind kind x = eqb (getD (x .slots) 0 0) (kindNumber kind)
 
 abbrev pub heardNumber : ℕ → Heard → Bool
 heardNumber number x = eqb (x .number) number
+
+-- "a refusal that ended the run (1 to 8, 13 to 15)"
+abbrev pub heardEnding : Heard → Bool
+heardEnding x = endsRun (x .number)
 
 abbrev pub namesOpen : Host → ℕ
 namesOpen h = getD (h .state) 2 0

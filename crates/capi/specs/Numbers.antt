@@ -1,8 +1,8 @@
 -- What the slots of a host hold: a reader's state and an answer as numbers.
 use Prim.Native.Nat.{ℕ, _+_, _/_, _%_}
-use mathlib.Core.Bool.{Bool}
+use mathlib.Core.Bool.{Bool, not}
 use mathlib.Core.List.{List, [], _∷_}
-use lib.ListN.{length, getD}
+use lib.ListN.{length, getD, set}
 use lib.Dec.{eqb, ltb}
 use Rattle.ground.specs.Choose.{pick}
 use Rattle.state.specs.declared.config.Config.{Config}
@@ -39,6 +39,7 @@ settingsNumber c =
     + pick (c .«trim_markup_names_in_closing_tags») 32 0
     + pick (c .«trim_text_start») 64 0
     + pick (c .«trim_text_end») 128 0
+    + pick (c .«check_open_names») 256 0
 
 -- the bit of a number is set that has this weight
 abbrev pub bit : ℕ → ℕ → Bool
@@ -56,25 +57,47 @@ configOf n =
       «trim_markup_names_in_closing_tags» = bit n 32;
       «trim_text_start» = bit n 64;
       «trim_text_end» = bit n 128;
+      «check_open_names» = bit n 256;
     }
 
--- a reader's state, and how many slots that are
-unfoldable pub stateNumbers : Reader → List ℕ
-stateNumbers r = phaseNumber (r .phase) ∷ r .position .0 ∷ r .depth .0 ∷ r .length ∷ settingsNumber (r .settings) ∷ []
+-- the mark, in a slot that held `was`: any number but 0 is a mark that is on, and stays
+abbrev pub markNumber : ℕ → Bool → ℕ
+markNumber was on = pick (eqb was 0) (pick on 1 0) was
+
+-- a reader's state, where the mark's slot held `was`, and how many slots that are
+unfoldable pub stateNumbers : ℕ → Reader → List ℕ
+stateNumbers was r =
+    phaseNumber (r .phase) ∷ r .position .0 ∷ r .depth .0 ∷ r .length ∷ settingsNumber (r .settings) ∷ markNumber was (r .mark) ∷ []
 
 abbrev pub stateSlots : ℕ
-stateSlots = 5
+stateSlots = 6
 
--- the reader whose numbers slots begin with; none where they are too few, or the first or the last of them is no phase's or no settings'
+-- the mark's slot, and what it holds
+abbrev pub markSlot : List ℕ → ℕ
+markSlot xs = getD xs 5 0
+
+-- slots in which a mark is written
+abbrev pub noted : List ℕ → Bool → List ℕ
+noted xs on = set xs 5 (markNumber (markSlot xs) on)
+
+-- the reader whose numbers slots begin with; none where they are too few, or the first or the fifth of them is no phase's or no settings'
 unfoldable pub heldOf : List ℕ → Held
 heldOf xs =
     pick (ltb (length xs) stateSlots)
     Held.Nothing
     (pick (ltb 5 (getD xs 0 0))
     Held.Nothing
-    (pick (ltb 255 (getD xs 4 0))
+    (pick (ltb 511 (getD xs 4 0))
     Held.Nothing
-    (Held.Reader (record { phase = phaseOf (getD xs 0 0); position = at (getD xs 1 0); depth = depthOf (getD xs 2 0); length = getD xs 3 0; settings = configOf (getD xs 4 0) }))))
+    (Held.Reader
+    (record {
+      phase = phaseOf (getD xs 0 0);
+      position = at (getD xs 1 0);
+      depth = depthOf (getD xs 2 0);
+      length = getD xs 3 0;
+      settings = configOf (getD xs 4 0);
+      mark = not (eqb (markSlot xs) 0);
+    }))))
 
 -- an answer's values, and how many slots that are
 unfoldable pub valuesNumbers : Values → List ℕ

@@ -25,11 +25,12 @@ pub fn config(n: usize) -> Config
         trim_markup_names_in_closing_tags: odd(n / 32),
         trim_text_start: odd(n / 64),
         trim_text_end: odd(n / 128),
+        check_open_names: odd(n / 256),
     }
 }
 
 // The bit's weight where a flag is on, 0 where it is off.
-fn weigh(flag: bool, weight: usize) -> usize
+pub fn weigh(flag: bool, weight: usize) -> usize
     ensures { λ r. ⌜ (r ≡ pick flag weight 0) × (r ≤ weight) ⌝ }
 {
     if flag { weight } else { 0 }
@@ -46,5 +47,6 @@ pub fn settings_number(c: Config) -> usize
     let closing = weigh(c.trim_markup_names_in_closing_tags, 32);
     let start = weigh(c.trim_text_start, 64);
     let end = weigh(c.trim_text_end, 128);
-    amp + ends + comments + names + empty + closing + start + end
+    let open = weigh(c.check_open_names, 256);
+    amp + ends + comments + names + empty + closing + start + end + open
 }

@@ -1,6 +1,7 @@
 // A reader's state, an answer and a part of the document as lent slots.
 use crate::bits::config;
 use crate::bits::settings_number;
+use crate::bits::weigh;
 use state::answer::Answer;
 use state::answer::Error;
 use state::answer::Refusal;
@@ -12,12 +13,12 @@ use state::run::Phase;
 use state::run::Reader;
 ghost use mathlib.Core.Path.{_≡_};
 ghost use lib.ListN.{take};
-ghost use Rattle.capi.specs.Numbers.{phaseNumber, phaseOf, heldOf, stateNumbers, valuesNumbers};
+ghost use Rattle.capi.specs.Numbers.{phaseNumber, phaseOf, heldOf, noted, stateNumbers, valuesNumbers};
 ghost use Rattle.capi.specs.Slots.{put as putIn, placed as placedOf};
 ghost use Rattle.state.specs.Make.{badAnswer};
 
 // How many slots each takes.
-pub const STATE_SLOTS: usize = 5;
+pub const STATE_SLOTS: usize = 6;
 
 pub const ANSWER_SLOTS: usize = 12;
 
@@ -26,7 +27,10 @@ pub const PART_SLOTS: usize = 2;
 // The largest number of a phase, and of settings.
 const LAST_PHASE: usize = 5;
 
-const LAST_SETTINGS: usize = 255;
+const LAST_SETTINGS: usize = 511;
+
+// The slot of the mark.
+const MARK: usize = 5;
 
 // The reader that slots hold.
 pub enum Held {
@@ -79,6 +83,7 @@ pub fn load(state: &[usize]) -> Held
         depth: Depth(state[2]),
         length: state[3],
         settings: config(state[4]),
+        mark: state[MARK] != 0,
     })
 }
 
@@ -96,9 +101,9 @@ pub fn put(slots: &mut [usize], numbers: &[usize])
     }
 }
 
-// Writes a reader's numbers.
+// Writes the numbers of a reader whose mark's slot was 0.
 pub fn store(state: &mut [usize], reader: Reader)
-    ensures { λ _. ⌜ now (state .exit) ≡ putIn (now (state .entry)) (stateNumbers reader) ⌝ }
+    ensures { λ _. ⌜ now (state .exit) ≡ putIn (now (state .entry)) (stateNumbers 0 reader) ⌝ }
 {
     let phase = reader.phase;
     let position = reader.position;
@@ -110,19 +115,34 @@ pub fn store(state: &mut [usize], reader: Reader)
         depth.0,
         reader.length,
         settings_number(settings),
+        weigh(reader.mark, 1),
     ];
     put(state, &numbers);
 }
 
 // Writes those of a reader's numbers that a call can change: its length and its settings stand in the slots already.
 pub fn move_on(state: &mut [usize], reader: Reader)
-    ensures { λ _. ⌜ now (state .exit) ≡ putIn (now (state .entry)) (take 3 (stateNumbers reader)) ⌝ }
+    ensures { λ _. ⌜ now (state .exit) ≡ putIn (noted (now (state .entry)) (reader .mark)) (take 3 (stateNumbers 0 reader)) ⌝ }
 {
     let phase = reader.phase;
     let position = reader.position;
     let depth = reader.depth;
+    note(state, reader.mark);
     let numbers = [phase_number(phase), position.0, depth.0];
     put(state, &numbers);
+}
+
+// Writes a mark that is on, where its slot says that it is off.
+fn note(state: &mut [usize], mark: bool)
+    ensures { λ _. ⌜ now (state .exit) ≡ noted (now (state .entry)) mark ⌝ }
+{
+    if mark {
+        if MARK < state.len() {
+            if state[MARK] == 0 {
+                state[MARK] = 1;
+            }
+        }
+    }
 }
 
 // Writes an answer's numbers.

@@ -113,6 +113,7 @@ fn state_case(text: &[u8], from: usize) {
     let end = word(text, from);
     let settings = settings(ground::part(text, from, end));
     let next = word(text, end);
+    let mark = ground::starts_with(text, end, b" !");
     let phase = phase(ground::part(text, end, next));
     let position = number(text, next);
     let depth = number(text, position.next);
@@ -124,6 +125,7 @@ fn state_case(text: &[u8], from: usize) {
         depth: Depth(depth.value),
         length: length.value,
         settings,
+        mark,
     };
     let mut stack = filled(text, slots.next);
     let lent = lent(slots.value, &stack);
@@ -141,9 +143,14 @@ fn filled(text: &[u8], from: usize) -> [usize; ROOM]
     stack
 }
 
-// The phase by its word, which stands after a space.
+// The phase by its word, which stands after a space, or after a space and a `!`.
 fn phase(name: &[u8]) -> Phase {
-    match number_of(name, b" init; text; markup; ref; empty") {
+    match number_of(
+        name,
+        b" init; !init; text; !text; markup; !markup; ref; !ref; empty; !empty",
+    )
+        / 2
+    {
         0 => Phase::Init,
         1 => Phase::InsideText,
         2 => Phase::InsideMarkup,

@@ -47,10 +47,18 @@ fn say_span(text: &[u8], span: Span) {
     say_numbers(text, &numbers);
 }
 
+// Where a reader stands, with a `!` in front where its mark is on.
+fn say_marked(reader: Reader) {
+    if reader.mark {
+        put(b'!');
+    }
+    say_place(reader);
+}
+
 // Where a run stands, and its open names, outermost first. Ends the line.
 pub fn say_names(reader: Reader, stack: &[usize]) {
     say(b" | ");
-    say_place(reader);
+    say_marked(reader);
     let names = reader.depth.0;
     let mut i = 0;
     while i < stack.len() {
@@ -75,7 +83,7 @@ pub fn say_reader(reader: Reader) {
     say(b" | ");
     say_settings(settings);
     put(b' ');
-    say_place(reader);
+    say_marked(reader);
     put_number(b' ', reader.length);
     say(b" |");
 }

@@ -1,7 +1,7 @@
 -- DEMAND 1: every call is answered, a run never meets a bad state, and it comes to its end. Any document within the limit, any settings, any lent stack,
 -- any number of calls from a fresh reader. Assumes nothing.
 use Prim.Native.Nat.{ℕ, zero, suc, _+_, _-_, _≤_}
-use mathlib.Core.Path.{_≡_, refl, sym, ap, _∙_}
+use mathlib.Core.Path.{_≡_, refl, sym, ap, _∙_, subst}
 use mathlib.Core.List.{List}
 use mathlib.Core.Bool.{Bool, true, false}
 use mathlib.Core.Logic.{_↔_, _⊎_, inl, inr}
@@ -10,7 +10,8 @@ use native.Mathlib.Nat.{zero-add, suc-add}
 use lib.ListN.{length}
 use lib.Dec.{ltb}
 use borrow.Author.Tests.{ne-eqb, eqb-true, ltb-false}
-use Rattle.ground.proofs.Choices.{pick-cases}
+use Rattle.ground.proofs.Choices.{clash, pick-cases}
+use Rattle.state.specs.declared.place.Span.{Span}
 use Rattle.state.specs.declared.config.Config.{Config}
 use Rattle.state.specs.declared.answer.Kind.{Kind}
 use Rattle.state.specs.declared.run.Phase.{Phase}
@@ -18,14 +19,15 @@ use Rattle.state.specs.declared.run.Reader.{Reader}
 use Rattle.state.specs.declared.run.Step.{Step}
 use Rattle.state.specs.declared.run.Made.{Made}
 use Rattle.state.specs.Limits.{longest, capacity}
-use Rattle.state.specs.Place.{span}
+use Rattle.state.specs.Place.{depthOf, span}
 use Rattle.state.specs.Values.{kindNumber, valuesOf}
-use Rattle.state.specs.Make.{fresh, made, moved, told, ended, badState}
+use Rattle.state.specs.Make.{fresh, made, moved, marked, told, ended, refused, stopped, stillOpen, ending, badState}
 use Rattle.state.proofs.Numbers.{answer-range}
-use Rattle.reader.specs.Names.{written}
+use Rattle.state.proofs.Open.{nothing-owed, told-before}
+use Rattle.reader.specs.Names.{latest, written}
 use Rattle.reader.specs.Sound.{sound}
-use Rattle.reader.specs.Step.{stepPhase, step}
-use Rattle.reader.proofs.Outside.{Turned, rankAt, rank, step-turn, call-numbers}
+use Rattle.reader.specs.Step.{stepIn, stepPhase, step}
+use Rattle.reader.proofs.Outside.{Turned, rankAt, due, step-turn, call-numbers}
 use Rattle.reader.proofs.Rooms.{bad-step, any-state}
 use Rattle.demands.specs.Run.{World, said, call, run, AtRest}
 use Rattle.demands.specs.Answers.{AnEvent, ARefusal, isEof, isBadState}
@@ -64,10 +66,51 @@ module _ (doc stack : List ℕ) (r : Reader) where
   every-call-is-answered = by (answer-range (step doc stack r .answer))
     where
       by : AnEvent (step doc stack r .answer)
-          ⊎ ((valuesOf (step doc stack r .answer) .kind ≡ 0) × (1 ≤ valuesOf (step doc stack r .answer) .number) × (valuesOf (step doc stack r .answer) .number ≤ 17))
+          ⊎ ((valuesOf (step doc stack r .answer) .kind ≡ 0) × (1 ≤ valuesOf (step doc stack r .answer) .number) × (valuesOf (step doc stack r .answer) .number ≤ 18))
           → AnEvent (step doc stack r .answer) ⊎ ARefusal (step doc stack r .answer)
       by (inl x) = inl x
       by (inr x) = inr (x .0, x .1, x .2, no-16)
+
+  -- in a sound state
+  phase-step : sound doc stack r ≡ true → step doc stack r ≡ stepIn doc r (latest stack (r .depth .0)) (depthOf (capacity (length stack))) (r .phase)
+  unfolding step stepPhase
+  phase-step e = rw e
+
+  -- a sound state that is done
+  module _ (e : sound doc stack r ≡ true) (done : r .phase ≡ Phase.Done) where
+    end-step : step doc stack r ≡ ending r (latest stack (r .depth .0)) (span (r .position .0) (r .position .0))
+    end-step = phase-step e ∙ ap (stepIn doc r (latest stack (r .depth .0)) (depthOf (capacity (length stack)))) done
+
+    eof-step : stillOpen r ≡ false → step doc stack r ≡ ended r (span (r .position .0) (r .position .0))
+    unfolding ending
+    eof-step none = end-step ∙ rw none
+
+-- nothing is changed but the mark
+abbrev Marked : List ℕ → Reader → Step → Type 0
+Marked stack r s = isEof (s .answer) ≡ true → (s .reader ≡ marked r) × (written stack (r .depth .0) (s .answer) ≡ stack)
+
+end-marks : (stack : List ℕ) (r : Reader) (last : Span) → r .phase ≡ Phase.Done → Marked stack r (ending r last (span (r .position .0) (r .position .0)))
+unfolding ending stopped refused ended told moved marked written
+end-marks stack r last done =
+    pick-cases (Marked stack r) (stillOpen r) _ _
+    (λ _ e. clash false e refl)
+    (λ _ e. (ap (λ (p : Phase). record { phase = p; position = r .position; depth = r .depth; length = r .length; settings = r .settings; mark = true }) (sym done), refl))
+
+-- THEOREM: from any state, "Eof in Done changes nothing but the mark"
+pub eof-in-done-changes-nothing-but-the-mark : (doc stack : List ℕ) (r : Reader) → r .phase ≡ Phase.Done → Marked stack r (step doc stack r)
+unfolding badState
+eof-in-done-changes-nothing-but-the-mark doc stack r done =
+    any-state doc stack r (Marked stack r)
+    (λ e. subst (Marked stack r) (sym (end-step doc stack r e done)) (end-marks stack r (latest stack (r .depth .0)) done))
+    (λ e. clash false e refl)
+
+-- the reader is done, and what is answered is not 13
+abbrev Over : Step → Type 0
+Over s = (s .reader .phase ≡ Phase.Done) × (valuesOf (s .answer) .number ≡ 13 → ⊥)
+
+end-says : (r : Reader) (last piece : Span) → Over (ending r last piece)
+unfolding ending stopped refused ended told moved
+end-says r last piece = pick-cases Over (stillOpen r) _ _ (λ _. (refl, λ n. omega arith)) (λ _. (refl, λ n. omega arith))
 
 -- ---- a run
 
@@ -119,10 +162,10 @@ module _ (doc stack : List ℕ) (c : Config) (short : length doc ≤ longest) wh
 
   -- ---- the end
 
-  rank-falls : (n : ℕ) → rank doc (after n .reader) ≤ length doc + 1 - n
-  unfolding run call fresh
-  rank-falls zero = omega arith
-  rank-falls (suc n) = omega (arith, turn n .falls, rank-falls n)
+  due-falls : (n : ℕ) → due doc (after n .reader) ≤ length doc + 1 - n
+  unfolding run call fresh stillOpen
+  due-falls zero = omega arith
+  due-falls (suc n) = omega (arith, turn n .falls, due-falls n)
 
   rank-done : (position : ℕ) (p : Phase) → rankAt doc position p ≤ 0 → p ≡ Phase.Done
   rank-done position Phase.Init h = absurd (omega arith)
@@ -135,53 +178,71 @@ module _ (doc stack : List ℕ) (c : Config) (short : length doc ≤ longest) wh
   -- THEOREM: after length + 1 calls the reader is done
   pub done-after-length-and-one : after (length doc + 1) .reader .phase ≡ Phase.Done
   done-after-length-and-one =
-      rank-done (after (length doc + 1) .reader .position .0) (after (length doc + 1) .reader .phase) (omega (arith, rank-falls (length doc + 1)))
+      rank-done (after (length doc + 1) .reader .position .0) (after (length doc + 1) .reader .phase) (omega (arith, due-falls (length doc + 1)))
 
-  -- a reader that is done stays as it is
-  still : (r : Reader) → r .phase ≡ Phase.Done → moved r Phase.Done (r .position .0) ≡ r
-  unfolding moved
-  still r e =
-      ap (λ (p : Phase). record { phase = p; position = r .position; depth = r .depth; length = r .length; settings = r .settings }) (sym e)
+  nothing-open-after-length-and-one : stillOpen (after (length doc + 1) .reader) ≡ false
+  nothing-open-after-length-and-one = nothing-owed (after (length doc + 1) .reader) (omega (arith, due-falls (length doc + 1)))
+
+  -- a reader that is done, and whose mark is on, stays as it is
+  still : (r : Reader) → r .phase ≡ Phase.Done → r .mark ≡ true → moved (marked r) Phase.Done (r .position .0) ≡ r
+  unfolding moved marked
+  still r e m =
+      ap (λ (p : Phase). record { phase = p; position = r .position; depth = r .depth; length = r .length; settings = r .settings; mark = true }) (sym e)
+      ∙ ap (λ (b : Bool). record { phase = r .phase; position = r .position; depth = r .depth; length = r .length; settings = r .settings; mark = b }) (sym m)
 
   module _ (n : ℕ) (done : after n .reader .phase ≡ Phase.Done) where
-    done-step : step doc (after n .stack) (after n .reader) ≡ ended (after n .reader) (span (after n .reader .position .0) (after n .reader .position .0))
-    unfolding step stepPhase
-    done-step = rw (every-state-is-sound n, done)
+    pub done-stays : (after (suc n) .reader .phase ≡ Phase.Done) × (valuesOf (said doc (after n)) .number ≡ 13 → ⊥)
+    unfolding run call
+    done-stays = subst Over (sym (end-step doc (after n .stack) (after n .reader) (every-state-is-sound n) done)) (end-says (after n .reader) _ _)
 
-    pub done-says : isEof (said doc (after n)) ≡ true
-    unfolding ended told
-    done-says = ap (λ (s : Step). isEof (s .answer)) done-step
+    module _ (none : stillOpen (after n .reader) ≡ false) where
+      ends : step doc (after n .stack) (after n .reader) ≡ ended (after n .reader) (span (after n .reader .position .0) (after n .reader .position .0))
+      ends = eof-step doc (after n .stack) (after n .reader) (every-state-is-sound n) done none
 
-    pub done-reader : after (suc n) .reader ≡ after n .reader
-    unfolding run call ended told
-    done-reader = ap (λ (s : Step). s .reader) done-step ∙ still (after n .reader) done
+      pub done-says : isEof (said doc (after n)) ≡ true
+      unfolding ended told
+      done-says = ap (λ (s : Step). isEof (s .answer)) ends
 
-    done-stack : after (suc n) .stack ≡ after n .stack
-    unfolding run call written ended told
-    done-stack = ap (λ (s : Step). written (after n .stack) (after n .reader .depth .0) (s .answer)) done-step
+    module _ (told-once : after n .reader .mark ≡ true) where
+      rests : step doc (after n .stack) (after n .reader) ≡ ended (after n .reader) (span (after n .reader .position .0) (after n .reader .position .0))
+      rests = ends (told-before (after n .reader) told-once)
 
-  stays : (n : ℕ) → after n .reader .phase ≡ Phase.Done → (k : ℕ) → AtRest doc (after n) (after (k + n))
-  stays n done zero = rw (zero-add n) (record { says = done-says n done; reader = refl; stack = refl })
-  stays n done (suc k) = rw (suc-add k n) (on (stays n done k))
+      pub rest-says : isEof (said doc (after n)) ≡ true
+      rest-says = done-says (told-before (after n .reader) told-once)
+
+      pub rest-reader : after (suc n) .reader ≡ after n .reader
+      unfolding run call ended told
+      rest-reader = ap (λ (s : Step). s .reader) rests ∙ still (after n .reader) done told-once
+
+      rest-stack : after (suc n) .stack ≡ after n .stack
+      unfolding run call written ended told
+      rest-stack = ap (λ (s : Step). written (after n .stack) (after n .reader .depth .0) (s .answer)) rests
+
+  stays : (n : ℕ) → after n .reader .phase ≡ Phase.Done → after n .reader .mark ≡ true → (k : ℕ) → AtRest doc (after n) (after (k + n))
+  stays n done on zero = rw (zero-add n) (record { says = rest-says n done on; reader = refl; stack = refl })
+  stays n done on (suc k) = rw (suc-add k n) (onward (stays n done on k))
     where
-      on : AtRest doc (after n) (after (k + n)) → AtRest doc (after n) (after (suc (k + n)))
-      on x =
+      onward : AtRest doc (after n) (after (k + n)) → AtRest doc (after n) (after (suc (k + n)))
+      onward x =
           let d : after (k + n) .reader .phase ≡ Phase.Done = ap (λ (r : Reader). r .phase) (x .reader) ∙ done in
-          let e : after (suc (k + n)) .reader ≡ after n .reader = done-reader (k + n) d ∙ x .reader in
+          let m : after (k + n) .reader .mark ≡ true = ap (λ (r : Reader). r .mark) (x .reader) ∙ on in
+          let e : after (suc (k + n)) .reader ≡ after n .reader = rest-reader (k + n) d m ∙ x .reader in
           record {
-            says = done-says (suc (k + n)) (ap (λ (r : Reader). r .phase) e ∙ done);
+            says = rest-says (suc (k + n)) (ap (λ (r : Reader). r .phase) e ∙ done) (ap (λ (r : Reader). r .mark) e ∙ on);
             reader = e;
-            stack = done-stack (k + n) d ∙ x .stack;
+            stack = rest-stack (k + n) d m ∙ x .stack;
           }
 
-  -- THEOREM: "end of file comes by call number length + 2", the one after length + 1 calls
+  -- THEOREM: "end of file comes by call number length + 2", the one after length + 1 calls; 18 comes before it, if it comes
   pub eof-by-length-and-two : isEof (said doc (after (length doc + 1))) ≡ true
-  eof-by-length-and-two = done-says (length doc + 1) done-after-length-and-one
+  eof-by-length-and-two = done-says (length doc + 1) done-after-length-and-one nothing-open-after-length-and-one
 
-  eof-done : (n : ℕ) → isEof (said doc (after n)) ≡ true → after (suc n) .reader .phase ≡ Phase.Done
+  pub eof-done : (n : ℕ) → isEof (said doc (after n)) ≡ true → (after (suc n) .reader .phase ≡ Phase.Done) × (after (suc n) .reader .mark ≡ true)
   unfolding run call
-  eof-done n e = turn n .over (eqb-true (valuesOf (said doc (after n)) .kind) (kindNumber Kind.Eof) e)
+  eof-done n e =
+      let f = turn n .finish in
+      (f .over (eqb-true (valuesOf (said doc (after n)) .kind) (kindNumber Kind.Eof) e) .0, rw e at (f .mark))
 
   -- THEOREM: from an Eof on every call answers Eof and changes nothing
   pub eof-stays : (n : ℕ) → isEof (said doc (after n)) ≡ true → (k : ℕ) → AtRest doc (after (suc n)) (after (k + suc n))
-  eof-stays n e k = stays (suc n) (eof-done n e) k
+  eof-stays n e k = let d = eof-done n e in stays (suc n) (d .0) (d .1) k

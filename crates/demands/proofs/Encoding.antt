@@ -26,7 +26,7 @@ use Rattle.reader.proofs.Outside.{step-turn}
 use Rattle.reader.proofs.Rooms.{any-state}
 use Rattle.demands.specs.Run.{World, said, call, run}
 use Rattle.demands.specs.Answers.{AnEvent, isEncoding}
-use Rattle.demands.proofs.Demand1.{turn, done-says, done-reader}
+use Rattle.demands.proofs.Demand1.{turn, done-stays}
 
 -- ---- any document, any lent stack, any state
 
@@ -79,7 +79,7 @@ module _ (doc stack : List ℕ) (c : Config) (short : length doc ≤ longest) wh
   what-is-read-is-well-formed zero going = octets-nothing doc 0 (omega arith)
   what-is-read-is-well-formed (suc n) going =
       up-to-its-end n
-      (what-is-read-is-well-formed n (λ d. going (ap (λ (r : Reader). r .phase) (done-reader doc stack c short n d) ∙ d)))
+      (what-is-read-is-well-formed n (λ d. going (done-stays doc stack c short n d .0)))
       (turn doc stack c short n .encoding .going going)
 
   -- THEOREM: so 13 has as its place the first ill-formed byte of the document
@@ -87,11 +87,7 @@ module _ (doc stack : List ℕ) (c : Config) (short : length doc ≤ longest) wh
   the-document's-first-ill-formed-byte n e =
       let t = turn doc stack c short n in
       let number = eqb-true (valuesOf (said doc (after n)) .number) 13 e in
-      let read = what-is-read-is-well-formed n (λ d. over (eqb-true (valuesOf (said doc (after n)) .kind) (kindNumber Kind.Eof) (done-says doc stack c short n d)) number) in
+      let read = what-is-read-is-well-formed n (λ d. done-stays doc stack c short n d .1 number) in
       ill-first doc 0 (length doc) _
       (ill-wider doc (valuesOf (said doc (after n)) .piece .from) (valuesOf (said doc (after n)) .piece .to) 0 (length doc) _ (omega arith) (t .within) (omega arith)
       (up-to-the-piece n read) (t .encoding .ill number .has))
-    where
-      -- Eof is no refusal
-      over : valuesOf (said doc (after n)) .kind ≡ kindNumber Kind.Eof → valuesOf (said doc (after n)) .number ≡ 13 → ⊥
-      over k m = let z = no-number (said doc (after n)) (omega arith) in omega arith

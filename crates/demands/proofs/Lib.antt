@@ -2,6 +2,7 @@ pub mod Clauses
 pub mod Comments
 pub mod Demand1
 pub mod Demand3
+pub mod Document01
 pub mod Encoding
 pub mod Growing
 pub mod Held
@@ -9,4 +10,5 @@ pub mod Joined
 pub mod Longer
 pub mod OtherSettings
 pub mod Pinned
+pub mod Unclosed
 pub mod Worked

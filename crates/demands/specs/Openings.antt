@@ -1,4 +1,4 @@
--- Worked examples of demand 3: what each call answers, and the names that are open after it.
+-- Worked examples of demand 3 and of open names checked: what each call answers, and the names that are open after it.
 use Prim.Native.Nat.{ℕ, zero, suc}
 use mathlib.Core.Bool.{Bool, true, false}
 use mathlib.Core.List.{List, [], _∷_}
@@ -10,6 +10,7 @@ use Rattle.state.specs.Place.{span}
 use Rattle.state.specs.Values.{kindNumber, valuesOf}
 use Rattle.demands.specs.Run.{World, said, call, run}
 use Rattle.demands.specs.Open.{opened}
+use Rattle.demands.specs.Table.{checking}
 
 -- one call: the kind of its event, or 0; the number of its refusal, or 0; the event's content, or 0..0; the open names after it, the latest first
 pub record Turn : Type 0 where
@@ -46,6 +47,7 @@ settings check unmatched expand =
       «trim_markup_names_in_closing_tags» = true;
       «trim_text_start» = false;
       «trim_text_end» = false;
+      «check_open_names» = false;
     }
 
 -- by the definition of a call
@@ -135,4 +137,25 @@ openings =
     ∷ says Kind.GeneralRef (span 6 7) (span 1 2 ∷ [])
     ∷ refuses 15 (span 1 2 ∷ [])
     ∷ says Kind.Eof (span 8 8) (span 1 2 ∷ []) ∷ []))
+    -- and with open names checked: 15 ended the run, so there is no 18
+    ∷ (example (60 ∷ 97 ∷ 62 ∷ 38 ∷ 98 ∷ 38 ∷ 99 ∷ 59 ∷ 60 ∷ 100 ∷ 62 ∷ []) (checking false false) 3
+    (says Kind.Start (span 1 2) (span 1 2 ∷ [])
+    ∷ refuses 12 (span 1 2 ∷ [])
+    ∷ says Kind.GeneralRef (span 6 7) (span 1 2 ∷ [])
+    ∷ refuses 15 (span 1 2 ∷ [])
+    ∷ says Kind.Eof (span 8 8) (span 1 2 ∷ []) ∷ []))
+    -- `<a>&b` with open names checked: 12 did not end the run, and 18 comes once; the name stays open
+    ∷ (example (60 ∷ 97 ∷ 62 ∷ 38 ∷ 98 ∷ []) (checking false false) 4
+    (says Kind.Start (span 1 2) (span 1 2 ∷ [])
+    ∷ refuses 12 (span 1 2 ∷ [])
+    ∷ refuses 18 (span 1 2 ∷ [])
+    ∷ says Kind.Eof (span 5 5) (span 1 2 ∷ [])
+    ∷ says Kind.Eof (span 5 5) (span 1 2 ∷ []) ∷ []))
+    -- `<t><r/>6</t>` with open names checked: all is closed
+    ∷ (example nested (checking false false) 4
+    (says Kind.Start (span 1 2) (span 1 2 ∷ [])
+    ∷ says Kind.Empty (span 4 5) (span 1 2 ∷ [])
+    ∷ says Kind.Text (span 7 8) (span 1 2 ∷ [])
+    ∷ says Kind.End (span 10 11) []
+    ∷ says Kind.Eof (span 12 12) [] ∷ []))
     ∷ []

@@ -1,8 +1,10 @@
--- The worked examples of document 01 ("Proofs to pull"): default settings, capacity 64.
+-- The worked examples of document 01 ("Proofs to pull"), with default settings, and those of 18: capacity 64.
 use Prim.Native.Nat.{ℕ}
 use mathlib.Core.List.{List, [], _∷_, map, reverse}
 use lib.ListN.{length, replicate}
+use mathlib.Core.Bool.{Bool, true, false}
 use Rattle.state.specs.declared.place.Span.{Span}
+use Rattle.state.specs.declared.config.Config.{Config}
 use Rattle.state.specs.declared.answer.Kind.{Kind}
 use Rattle.state.specs.declared.answer.Values.{Values}
 use Rattle.state.specs.declared.run.Phase.{Phase}
@@ -50,8 +52,9 @@ pub record Shown : Type 0 where
   pub position : ℕ
   pub depth : ℕ
 
--- a document, and what as many calls show as it has answers listed
+-- a document with settings, and what as many calls show as it has answers listed
 pub record Row : Type 0 where
+  pub settings : Config
   pub doc : List ℕ
   pub shows : Shown
 
@@ -74,13 +77,32 @@ shown w =
 
 -- by the definition of a call, and by the table
 unfoldable pub given : Row → Shown
-given x = shown (run (x .doc) slots64 defaults (length (x .shows .says)))
+given x = shown (run (x .doc) slots64 (x .settings) (length (x .shows .says)))
 
 unfoldable pub wanted : Row → Shown
 wanted x = x .shows
 
+abbrev pub rowWith : Config → List ℕ → List Values → Phase → ℕ → ℕ → Row
+rowWith settings doc says phase position depth =
+    record { settings = settings; doc = doc; shows = record { says = says; phase = phase; position = position; depth = depth } }
+
 abbrev pub row : List ℕ → List Values → Phase → ℕ → ℕ → Row
-row doc says phase position depth = record { doc = doc; shows = record { says = says; phase = phase; position = position; depth = depth } }
+row = rowWith defaults
+
+-- open names checked, and text trimmed at its start or at its end; the other settings as by default
+abbrev pub checking : Bool → Bool → Config
+checking start end =
+    record {
+      «allow_dangling_amp» = false;
+      «allow_unmatched_ends» = false;
+      «check_comments» = false;
+      «check_end_names» = true;
+      «expand_empty_elements» = false;
+      «trim_markup_names_in_closing_tags» = true;
+      «trim_text_start» = start;
+      «trim_text_end» = end;
+      «check_open_names» = true;
+    }
 
 unfoldable pub table : List Row
 table =
@@ -161,4 +183,35 @@ table =
     (eventRow Kind.Text 0 1 0 1 0
     ∷ refusalRow 12 1 1 3 ∷ [])
     Phase.Done 3 0)
+    -- `<a>` with open names checked
+    ∷ (rowWith (checking false false) (60 ∷ 97 ∷ 62 ∷ [])
+    (eventRow Kind.Start 0 3 1 2 1
+    ∷ refusalRow 18 1 3 3
+    ∷ eventRow Kind.Eof 3 3 3 3 0 ∷ [])
+    Phase.Done 3 1)
+    -- and two spaces, trimmed at the end of text
+    ∷ (rowWith (checking false true) (60 ∷ 97 ∷ 62 ∷ 32 ∷ 32 ∷ [])
+    (eventRow Kind.Start 0 3 1 2 1
+    ∷ refusalRow 18 1 3 5
+    ∷ eventRow Kind.Eof 5 5 5 5 0 ∷ [])
+    Phase.Done 5 1)
+    -- or at its start
+    ∷ (rowWith (checking true false) (60 ∷ 97 ∷ 62 ∷ 32 ∷ 32 ∷ [])
+    (eventRow Kind.Start 0 3 1 2 1
+    ∷ refusalRow 18 1 5 5
+    ∷ eventRow Kind.Eof 5 5 5 5 0 ∷ [])
+    Phase.Done 5 1)
+    -- `<a>&b`: 12 at the end of input does not end the run
+    ∷ (rowWith (checking false false) (60 ∷ 97 ∷ 62 ∷ 38 ∷ 98 ∷ [])
+    (eventRow Kind.Start 0 3 1 2 1
+    ∷ refusalRow 12 3 3 5
+    ∷ refusalRow 18 1 5 5
+    ∷ eventRow Kind.Eof 5 5 5 5 0 ∷ [])
+    Phase.Done 5 1)
+    -- `<a><!x>`: 8 did
+    ∷ (rowWith (checking false false) (60 ∷ 97 ∷ 62 ∷ 60 ∷ 33 ∷ 120 ∷ 62 ∷ [])
+    (eventRow Kind.Start 0 3 1 2 1
+    ∷ refusalRow 8 3 3 3
+    ∷ eventRow Kind.Eof 3 3 3 3 0 ∷ [])
+    Phase.Done 3 1)
     ∷ []

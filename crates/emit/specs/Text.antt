@@ -12,7 +12,7 @@ use Rattle.state.specs.declared.run.Phase.{Phase}
 use Rattle.state.specs.declared.run.Reader.{Reader}
 use Rattle.state.specs.declared.run.Step.{Step}
 use Rattle.state.specs.Place.{span, size}
-use Rattle.state.specs.Make.{event, told, ended}
+use Rattle.state.specs.Make.{event, told, ending}
 
 -- without the white space at its end
 abbrev pub trimmed : List ℕ → Span → Span
@@ -26,6 +26,7 @@ textContent doc c piece = pick (c .«trim_text_end») (trimmed doc piece) piece
 unfoldable pub emitText : List ℕ → Reader → Span → Phase → Step
 emitText doc r piece next = told r (event Kind.Text piece (textContent doc (r .settings) piece) 0) next
 
--- "but at the end of input it is Eof, with the same piece and its content empty at the piece's start"
-unfoldable pub emitLastText : List ℕ → Reader → Span → Step
-emitLastText doc r piece = pick (eqb (size (textContent doc (r .settings) piece)) 0) (ended r piece) (emitText doc r piece Phase.Done)
+-- "but at the end of input it is Eof, with the same piece and its content empty at the piece's start", or 18
+unfoldable pub emitLastText : List ℕ → Reader → Span → Span → Step
+emitLastText doc r last piece =
+    pick (eqb (size (textContent doc (r .settings) piece)) 0) (ending r last piece) (emitText doc r piece Phase.Done)

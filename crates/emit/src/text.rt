@@ -27,14 +27,14 @@ pub fn emit_text(reader: Reader, document: &[u8], piece: Span, next: Phase) -> S
     )
 }
 
-// Text that the document ends with: end of file where its content is empty.
-pub fn emit_last_text(reader: Reader, document: &[u8], piece: Span) -> Step
-    ensures { λ r. ⌜ r ≡ emitLastText (now (document .entry)) reader piece ⌝ }
+// Text that the document ends with: end of file where its content is empty. `last` is the latest open name.
+pub fn emit_last_text(reader: Reader, document: &[u8], last: Span, piece: Span) -> Step
+    ensures { λ r. ⌜ r ≡ emitLastText (now (document .entry)) reader last piece ⌝ }
 {
     let settings = reader.settings;
     let content = content(document, settings, piece);
     if content.size() == 0 {
-        reader.eof(piece)
+        reader.end(last, piece)
     } else {
         emit_text(reader, document, piece, Phase::Done)
     }

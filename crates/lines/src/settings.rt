@@ -3,6 +3,7 @@
 //   u  allow_unmatched_ends                 m  trim_markup_names_in_closing_tags
 //   c  check_comments                       s  trim_text_start
 //   n  check_end_names                      e  trim_text_end
+//   o  check_open_names
 // After them T is `trim_text(true)`, t `trim_text(false)`, K `enable_all_checks(true)` and k `enable_all_checks(false)`.
 use crate::line::find;
 use crate::line::put;
@@ -23,6 +24,7 @@ pub fn settings(letters: &[u8]) -> Config {
         ),
         trim_text_start: turned(d.trim_text_start, letters, b's'),
         trim_text_end: turned(d.trim_text_end, letters, b'e'),
+        check_open_names: turned(d.check_open_names, letters, b'o'),
     };
     checks(trims(turned, letters), letters)
 }
@@ -72,6 +74,7 @@ pub fn say_settings(c: Config) {
     );
     said = say_flag(c.trim_text_start, d.trim_text_start, b's', said);
     said = say_flag(c.trim_text_end, d.trim_text_end, b'e', said);
+    said = say_flag(c.check_open_names, d.check_open_names, b'o', said);
     if !said {
         put(b'-');
     }

@@ -3,6 +3,7 @@
 use Prim.Native.Nat.{ℕ, _+_, _-_, _≤_, _<_}
 use mathlib.Core.Path.{_≡_, refl, ap}
 use mathlib.Core.List.{List, _∷_}
+use mathlib.Core.Bool.{true}
 use mathlib.Core.Logic.{inl, inr}
 use native.Mathlib.Omega.{arith}
 use lib.ListN.{length, drop, getD}
@@ -29,7 +30,7 @@ use Rattle.state.specs.declared.answer.Error.{Error}
 use Rattle.state.specs.declared.answer.Refusal.{Refusal}
 use Rattle.state.specs.declared.run.Phase.{Phase}
 use Rattle.state.specs.Place.{at}
-use Rattle.state.specs.Values.{numberedOf}
+use Rattle.state.specs.Values.{numberedOf, endsRun}
 use Rattle.emit.specs.Question.{xml, unclosedQuestion}
 use Rattle.reader.specs.declared.piece.Shape.{Shape}
 use Rattle.reader.specs.declared.piece.Piece.{Piece}
@@ -73,9 +74,13 @@ Lands doc to Phase.Done = Unit {0}
 abbrev pub Plain : ℕ → Type 0
 Plain n = (n ≡ 10 → ⊥) × (n ≡ 11 → ⊥) × (n ≡ 16 → ⊥) × (n ≡ 17 → ⊥)
 
--- an error with such a number, and neither 9 nor 13, which tell places of their own
+-- an error with such a number, and none of 9, 13 and 18, which tell places of their own
 abbrev pub PlainError : Error → Type 0
-PlainError e = Plain (numberedOf e .number) × (numberedOf e .number ≡ 9 → ⊥) × (numberedOf e .number ≡ 13 → ⊥)
+PlainError e = Plain (numberedOf e .number) × (numberedOf e .number ≡ 9 → ⊥) × (numberedOf e .number ≡ 13 → ⊥) × (numberedOf e .number ≡ 18 → ⊥)
+
+-- such an error that ends the run
+abbrev pub StopError : Error → Type 0
+StopError e = PlainError e × (endsRun (numberedOf e .number) ≡ true)
 
 -- a span from `from` on, in the document
 pub record Lies (doc : List ℕ) (from : ℕ) (s : Span) : Type 0 where
@@ -94,7 +99,7 @@ pub record CutOff (doc : List ℕ) (from : ℕ) (p : Piece) : Type 0 where
 -- a refusal of what starts at `from`
 pub record Halted (doc : List ℕ) (from : ℕ) (x : Refusal) : Type 0 where
   pub lies : Lies doc from (x .piece)
-  pub plain : PlainError (x .error)
+  pub plain : StopError (x .error)
 
 abbrev pub CutAt : List ℕ → ℕ → Cut → Type 0
 CutAt doc from (Cut.Piece p) = CutOff doc from p
@@ -123,23 +128,23 @@ last-border doc = inl (omega (arith, byte-past doc (length doc) (omega arith)))
 closed-border : (doc : List ℕ) (p : ℕ) → getD doc p 0 ≤ 0x7F → Border doc (p + 1)
 closed-border doc p h = let back : p + 1 - 1 ≡ p = omega arith in inr (rw back h)
 
-unclosed-tag : (found : TagFound) → PlainError (unclosedTag found)
+unclosed-tag : (found : TagFound) → StopError (unclosedTag found)
 unfolding unclosedTag
-unclosed-tag (TagFound.At end) = omega arith
-unclosed-tag (TagFound.Open ElementState.Outside) = omega arith
-unclosed-tag (TagFound.Open ElementState.SingleQ) = omega arith
-unclosed-tag (TagFound.Open ElementState.DoubleQ) = omega arith
+unclosed-tag (TagFound.At end) = (omega arith, refl)
+unclosed-tag (TagFound.Open ElementState.Outside) = (omega arith, refl)
+unclosed-tag (TagFound.Open ElementState.SingleQ) = (omega arith, refl)
+unclosed-tag (TagFound.Open ElementState.DoubleQ) = (omega arith, refl)
 
-unclosed-question : (doc : List ℕ) (from : ℕ) → PlainError (unclosedQuestion doc (at from))
+unclosed-question : (doc : List ℕ) (from : ℕ) → StopError (unclosedQuestion doc (at from))
 unfolding unclosedQuestion
 unclosed-question doc from =
-    pick-cases PlainError (begins (drop from doc) (lt ∷ question ∷ xml)) _ _
-    (λ _. pick-cases PlainError (leb (length doc) (from + 5)) _ _
-    (λ _. omega arith)
-    (λ _. pick-cases PlainError (eqb (getD doc (from + 5) 0) question) _ _
-    (λ _. omega arith)
-    (λ _. pick-cases PlainError (isWhite (getD doc (from + 5) 0)) _ _ (λ _. omega arith) (λ _. omega arith))))
-    (λ _. omega arith)
+    pick-cases StopError (begins (drop from doc) (lt ∷ question ∷ xml)) _ _
+    (λ _. pick-cases StopError (leb (length doc) (from + 5)) _ _
+    (λ _. (omega arith, refl))
+    (λ _. pick-cases StopError (eqb (getD doc (from + 5) 0) question) _ _
+    (λ _. (omega arith, refl))
+    (λ _. pick-cases StopError (isWhite (getD doc (from + 5) 0)) _ _ (λ _. (omega arith, refl)) (λ _. (omega arith, refl)))))
+    (λ _. (omega arith, refl))
 
 module _ (doc : List ℕ) (from : ℕ) where
   abbrev Here : Cut → Type 0
@@ -149,7 +154,7 @@ module _ (doc : List ℕ) (from : ℕ) where
   unfolding whole
   whole-cut shape to next h k m o l b = record { lies = record { starts = refl; ends = h; within = k }; moves = m; opens = o; lands = l; border = b }
 
-  stop-cut : (error : Error) (left : ℕ) → from ≤ left → left ≤ length doc → PlainError error → Here (stop error from left)
+  stop-cut : (error : Error) (left : ℕ) → from ≤ left → left ≤ length doc → StopError error → Here (stop error from left)
   unfolding stop
   stop-cut error left h k p = record { lies = record { starts = refl; ends = h; within = k }; plain = p }
 
@@ -189,10 +194,10 @@ module _ (doc : List ℕ) (from : ℕ) where
         → Here (whole shape from (p + 1) Phase.InsideText)
     closed shape p m t g o = whole-cut shape (p + 1) Phase.InsideText (omega arith) (omega arith) m o tt (closed-border doc p (omega arith))
 
-    unclosed : (error : Error) → PlainError error → Here (stop error from (length doc))
+    unclosed : (error : Error) → StopError error → Here (stop error from (length doc))
     unclosed error p = stop-cut error (length doc) h (omega arith) p
 
-    kept : (error : Error) → PlainError error → Here (stop error from from)
+    kept : (error : Error) → StopError error → Here (stop error from from)
     kept error p = stop-cut error from (omega arith) h p
 
     -- markup, at a `<`
@@ -207,7 +212,7 @@ module _ (doc : List ℕ) (from : ℕ) where
           closed shape p (omega (arith, t .after)) (t .within) (t .closes) o)
           (unclosed _ (unclosed-tag (elementFound doc from)))
 
-      marked-cut : (found : MarksFound) (shape : Shape) (error : Error) → fewest shape ≤ 1 → Opens doc from shape → PlainError error
+      marked-cut : (found : MarksFound) (shape : Shape) (error : Error) → fewest shape ≤ 1 → Opens doc from shape → StopError error
           → ((p : ℕ) → found ≡ MarksFound.At p → (from ≤ p) × (p < length doc) × (getD doc p 0 ≡ gt)) → Here (cutMarked doc from found shape error)
       unfolding cutMarked
       marked-cut found shape error f o q w = marks-cases Here found _ _ (λ p e. closed shape p (omega (arith, w p e .0)) (w p e .1) (w p e .2) o) (unclosed error q)
@@ -216,16 +221,16 @@ module _ (doc : List ℕ) (from : ℕ) where
       unfolding cutBang
       bang-cut third =
           pick-cases Here (eqb third openBracket) _ _
-          (λ _. marked-cut (cdataFound doc from) Shape.CData Error.UnclosedCData (omega arith) l (omega arith)
+          (λ _. marked-cut (cdataFound doc from) Shape.CData Error.UnclosedCData (omega arith) l (omega arith, refl)
           (λ p e. let t = found-has MarksFound.At _ _ (cdata-gives doc from) (cdataFound doc from) p refl e in omega (arith, t)))
           (λ _. pick-cases Here (eqb third hyphen) _ _
-          (λ _. marked-cut (commentFound doc from) Shape.Comment Error.UnclosedComment (omega arith) l (omega arith)
+          (λ _. marked-cut (commentFound doc from) Shape.Comment Error.UnclosedComment (omega arith) l (omega arith, refl)
           (λ p e. let t = found-has MarksFound.At _ _ (comment-gives doc from) (commentFound doc from) p refl e in omega (arith, t)))
           (λ _. pick-cases Here (eqb third upperD) _ _
-          (λ _. kept Error.DocType (omega arith))
+          (λ _. kept Error.DocType (omega arith, refl))
           (λ _. pick-cases Here (eqb third lowerD) _ _
-          (λ _. kept Error.DocType (omega arith))
-          (λ _. kept Error.InvalidBangMarkup (omega arith)))))
+          (λ _. kept Error.DocType (omega arith, refl))
+          (λ _. kept Error.InvalidBangMarkup (omega arith, refl)))))
 
       question-cut : Here (cutQuestion doc from)
       unfolding cutQuestion
@@ -238,7 +243,7 @@ module _ (doc : List ℕ) (from : ℕ) where
       unfolding cutMarkup
       markup-cut =
           pick-cases Here (leb (length doc) (from + 1)) _ _
-          (λ _. kept Error.UnclosedTag (omega arith))
+          (λ _. kept Error.UnclosedTag (omega arith, refl))
           (λ _. pick-cases Here (eqb (getD doc (from + 1) 0) bang) _ _
           (λ _. bang-cut (getD doc (from + 2) 0))
           (λ _. pick-cases Here (eqb (getD doc (from + 1) 0) question) _ _

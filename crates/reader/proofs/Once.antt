@@ -15,7 +15,7 @@ use Rattle.state.specs.declared.place.Span.{Span}
 use Rattle.state.specs.declared.run.Phase.{Phase}
 use Rattle.state.specs.declared.run.Reader.{Reader}
 use Rattle.state.specs.declared.run.Step.{Step}
-use Rattle.state.specs.Make.{ended}
+use Rattle.state.specs.Make.{ending}
 use Rattle.state.specs.Place.{span}
 use Rattle.emit.specs.End.{closeExpandedEmpty}
 use Rattle.reader.specs.declared.piece.Cut.{Cut}
@@ -55,7 +55,7 @@ module _ (doc : List ℕ) (r : Reader) (last : Span) (cap : Depth) where
   abbrev done : Due → Step
   done (Due.Piece from) = taken doc r last cap (cutNext doc from)
   done Due.EmptyEnd = closeExpandedEmpty r last
-  done Due.Nothing = ended r (span (r .position .0) (r .position .0))
+  done Due.Nothing = ending r last (span (r .position .0) (r .position .0))
 
   -- it is what a call does in the phase
   done-in : (p : Phase) → inPlaceIn doc r p ≡ true → done (dueIn doc r p) ≡ stepIn doc r last cap p
@@ -78,7 +78,7 @@ module _ (doc : List ℕ) (r : Reader) (last : Span) (cap : Depth) where
     pub end-done : due ≡ Due.EmptyEnd → s ≡ closeExpandedEmpty r last → s ≡ stepPhase doc r last cap
     end-done k f = all-done (f ∙ ap done (sym k))
 
-    pub nothing-done : due ≡ Due.Nothing → s ≡ ended r (span (r .position .0) (r .position .0)) → s ≡ stepPhase doc r last cap
+    pub nothing-done : due ≡ Due.Nothing → s ≡ ending r last (span (r .position .0) (r .position .0)) → s ≡ stepPhase doc r last cap
     nothing-done k f = all-done (f ∙ ap done (sym k))
 
 pub ruleset pieces = (needs, piece-done, end-done, nothing-done)

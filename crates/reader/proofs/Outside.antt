@@ -7,8 +7,9 @@ use mathlib.Core.Bool.{true, false}
 use native.Mathlib.Omega.{arith}
 use lib.ListN.{length, drop, getD}
 use lib.Dec.{eqb, leb, ltb}
-use borrow.Author.Tests.{eq-eqb, eqb-true, eqb-false, ltb-true, ltb-false, lt-ltb}
+use borrow.Author.Tests.{eq-eqb, ne-eqb, eqb-true, eqb-false, ltb-true, ltb-false, lt-ltb}
 use Rattle.ground.specs.Bytes.{lt}
+use Rattle.ground.specs.Choose.{pick}
 use Rattle.ground.specs.Equal.{begins, same}
 use Rattle.ground.specs.Part.{part}
 use Rattle.ground.proofs.Choices.{pick-cases, clash, both, not-true, not-false}
@@ -35,9 +36,10 @@ use Rattle.state.specs.declared.run.Reader.{Reader}
 use Rattle.state.specs.declared.run.Step.{Step}
 use Rattle.state.specs.Place.{at, span, size, depthOf, inner}
 use Rattle.state.specs.Limits.{capacity}
-use Rattle.state.specs.Values.{kindNumber, numberedOf, valuesOf}
-use Rattle.state.specs.Make.{event, moved, withDepth, told, ended, refused, stopped}
+use Rattle.state.specs.Values.{kindNumber, numberedOf, valuesOf, endsRun, turnsOn}
+use Rattle.state.specs.Make.{event, moved, withDepth, marked, told, ended, refused, stopped, stillOpen, ending}
 use Rattle.state.proofs.Numbers.{no-number}
+use Rattle.state.proofs.Open.{owed, owed-few, owed-nothing, owed-marked, owed-less}
 use Rattle.state.proofs.Spans.{inner-lies, fits}
 use Rattle.emit.specs.Text.{textContent, emitText, emitLastText}
 use Rattle.emit.specs.Reference.{emitRef, emitDangling}
@@ -51,13 +53,13 @@ use Rattle.reader.specs.declared.piece.Cut.{Cut}
 use Rattle.reader.specs.Names.{latest, nameOf, bytes}
 use Rattle.reader.specs.Sound.{inPlaceIn, inPlace, sound}
 use Rattle.reader.specs.Step.{emittedAs, emitted, checked, taken, skipped, stepText, bom, begin, stepIn, stepPhase, step, FirstIll}
-use Rattle.reader.proofs.Cuts.{fewest, Opens, Lands, Plain, PlainError, Lies, CutOff, CutAt, next-cut, markup-cut, ref-cut}
+use Rattle.reader.proofs.Cuts.{fewest, Opens, Lands, Plain, PlainError, StopError, Lies, CutOff, CutAt, next-cut, markup-cut, ref-cut}
 use Rattle.reader.proofs.Passed.{white-octets, begin-octets}
 use Rattle.reader.proofs.States.{sound-true, markup-at, ref-at}
 
 -- ---- what there is to see
 
--- a bound on the calls until the reader is done, which falls with each call
+-- a bound on the calls until the reader is done
 abbrev pub rankAt : List ℕ → ℕ → Phase → ℕ
 rankAt doc position Phase.Init = length doc + 1
 rankAt doc position Phase.InsideText = length doc - position + 1
@@ -68,6 +70,10 @@ rankAt doc position Phase.Done = 0
 
 abbrev pub rank : List ℕ → Reader → ℕ
 rank doc r = rankAt doc (r .position .0) (r .phase)
+
+-- and one on those until the next is Eof, which falls with each call
+abbrev pub due : List ℕ → Reader → ℕ
+due doc r = rank doc r + owed r
 
 -- an answer that says nothing of names
 abbrev pub Quiet : Answer → Type 0
@@ -106,6 +112,13 @@ pub record Encoded (doc : List ℕ) (r : Reader) (s : Step) : Type 0 where
   pub going : (s .reader .phase ≡ Phase.Done → ⊥) → Octets (bytes doc (valuesOf (s .answer) .piece))
   pub ill : valuesOf (s .answer) .number ≡ 13 → FirstIll doc (valuesOf (s .answer) .piece) (valuesOf (s .answer) .place)
 
+-- what a call says of the end: Eof with nothing still open, 18 while something is, at the latest open name; the reader is done after either. And what it does to
+-- the mark
+pub record Finished (last : Span) (r : Reader) (s : Step) : Type 0 where
+  pub over : valuesOf (s .answer) .kind ≡ kindNumber Kind.Eof → (s .reader .phase ≡ Phase.Done) × (stillOpen r ≡ false)
+  pub unclosed : valuesOf (s .answer) .number ≡ 18 → (s .reader .phase ≡ Phase.Done) × (stillOpen r ≡ true) × (valuesOf (s .answer) .place ≡ last .from)
+  pub mark : s .reader .mark ≡ pick (turnsOn (s .answer)) true (r .mark)
+
 pub record Turned (doc : List ℕ) (cap : ℕ) (last : Span) (r : Reader) (s : Step) : Type 0 where
   pub size : s .reader .length ≡ r .length
   pub settings : s .reader .settings ≡ r .settings
@@ -115,8 +128,8 @@ pub record Turned (doc : List ℕ) (cap : ℕ) (last : Span) (r : Reader) (s : S
   pub left : s .reader .position .0 ≡ valuesOf (s .answer) .piece .to
   pub within : valuesOf (s .answer) .piece .to ≤ length doc
   pub in-place : inPlace doc (s .reader) ≡ true
-  pub falls : rank doc (s .reader) ≤ rank doc r - 1
-  pub over : valuesOf (s .answer) .kind ≡ kindNumber Kind.Eof → s .reader .phase ≡ Phase.Done
+  pub falls : due doc (s .reader) ≤ due doc r - 1
+  pub finish : Finished last r s
   pub names : Named doc cap last r s
   pub comment : Commented doc r (s .answer)
   pub encoding : Encoded doc r s
@@ -154,18 +167,31 @@ Placed doc r piece error place =
     (numberedOf error .number ≡ 9 → (r .settings .«check_comments» ≡ true) × FirstPair doc (inner piece 4 3) (place .0))
     × (numberedOf error .number ≡ 13 → FirstIll doc piece (place .0))
 
--- the same reader but for phase, position and depth
+-- the same reader but for phase, position, depth and mark
 record Like (r b : Reader) : Type 0 where
   pub size : b .length ≡ r .length
   pub settings : b .settings ≡ r .settings
 
+-- and the mark is the same too
+record Twin (r b : Reader) : Type 0 where
+  pub like : Like r b
+  pub mark : b .mark ≡ r .mark
+
 -- a phase in which b may go on at `to`
 record Next (doc : List ℕ) (r b : Reader) (to : ℕ) (next : Phase) : Type 0 where
   pub in-place : inPlaceIn doc (moved b next to) next ≡ true
-  pub falls : rankAt doc to next ≤ rank doc r - 1
+  pub falls : rankAt doc to next + owed b ≤ due doc r - 1
 
-like-itself : (r : Reader) → Like r r
-like-itself r = record { size = refl; settings = refl }
+twin-itself : (r : Reader) → Twin r r
+twin-itself r = record { like = record { size = refl; settings = refl }; mark = refl }
+
+like-marked : (r : Reader) → Like r (marked r)
+unfolding marked
+like-marked r = record { size = refl; settings = refl }
+
+-- with no more names open
+twin-owed : (r b : Reader) → Twin r b → b .depth .0 ≤ r .depth .0 → owed b ≤ owed r
+twin-owed r b t d = owed-less r b (t .like .settings) (t .mark) d
 
 -- ---- names
 
@@ -200,9 +226,9 @@ module _ (doc : List ℕ) (cap : ℕ) (last : Span) (r : Reader) (piece : Span) 
   Names = Named doc cap last r
 
   told-turn : (b : Reader) (kind : Kind) (content : Span) (name : ℕ) (next : Phase) → Like r b → Next doc r b (piece .to) next
-      → Octets (bytes doc piece) → (kindNumber kind ≡ kindNumber Kind.Eof → next ≡ Phase.Done) → Unpaired doc r piece kind
+      → Octets (bytes doc piece) → Finished last r (told b (event kind piece content name) next) → Unpaired doc r piece kind
       → Names (told b (event kind piece content name) next) → Turn (told b (event kind piece content name) next)
-  unfolding told moved inPlace
+  unfolding told moved inPlace stillOpen
   told-turn b kind content name next l n w o u k =
       record {
         size = l .size;
@@ -213,16 +239,17 @@ module _ (doc : List ℕ) (cap : ℕ) (last : Span) (r : Reader) (piece : Span) 
         within = f .within;
         in-place = n .in-place;
         falls = n .falls;
-        over = o;
+        finish = o;
         names = k;
         comment = record { refused = λ e. absurd (omega arith); passed = u };
         encoding = record { passed = f .passed; event = λ _. w; going = λ _. w; ill = λ e. absurd (omega arith) };
       }
 
   refused-turn : (b : Reader) (error : Error) (place : Position) (next : Phase) → Like r b → Next doc r b (piece .to) next
-      → ((next ≡ Phase.Done → ⊥) → Octets (bytes doc piece)) → Placed doc r piece error place → Names (refused b error place piece next) → Turn (refused b error place piece next)
-  unfolding refused moved inPlace
-  refused-turn b error place next l n w p k =
+      → ((next ≡ Phase.Done → ⊥) → Octets (bytes doc piece)) → Finished last r (refused b error place piece next) → Placed doc r piece error place
+      → Names (refused b error place piece next) → Turn (refused b error place piece next)
+  unfolding refused moved inPlace stillOpen
+  refused-turn b error place next l n w o p k =
       record {
         size = l .size;
         settings = l .settings;
@@ -232,29 +259,53 @@ module _ (doc : List ℕ) (cap : ℕ) (last : Span) (r : Reader) (piece : Span) 
         within = f .within;
         in-place = n .in-place;
         falls = n .falls;
-        over = λ e. absurd (omega arith);
+        finish = o;
         names = k;
         comment = record { refused = p .0; passed = λ e. absurd (omega arith) };
         encoding = record { passed = f .passed; event = λ e. absurd (omega arith); going = w; ill = p .1 };
       }
 
+  -- an answer that is not of the end, and keeps the mark
+  told-on : (b : Reader) (kind : Kind) (content : Span) (name : ℕ) (next : Phase) → Twin r b → (kindNumber kind ≡ kindNumber Kind.Eof → ⊥)
+      → Finished last r (told b (event kind piece content name) next)
+  unfolding told moved
+  told-on b kind content name next t n =
+      record { over = λ e. absurd (n e); unclosed = λ e. absurd (omega arith); mark = rw (ne-eqb (kindNumber kind) (kindNumber Kind.Eof) n) (t .mark) }
+
+  refused-on : (b : Reader) (error : Error) (place : Position) (next : Phase) → Twin r b → (numberedOf error .number ≡ 18 → ⊥) → endsRun (numberedOf error .number) ≡ false
+      → Finished last r (refused b error place piece next)
+  unfolding refused moved
+  refused-on b error place next t n off =
+      record { over = λ e. absurd (omega arith); unclosed = λ e. absurd (n e); mark = rw (ne-eqb (numberedOf error .number) 18 n, off) (t .mark) }
+
+  -- one that ends the run
+  stopped-off : (error : Error) (place : Position) → (numberedOf error .number ≡ 18 → ⊥) → endsRun (numberedOf error .number) ≡ true
+      → Finished last r (refused (marked r) error place piece Phase.Done)
+  unfolding refused moved marked
+  stopped-off error place n on =
+      record { over = λ e. absurd (omega arith); unclosed = λ e. absurd (n e); mark = rw (ne-eqb (numberedOf error .number) 18 n, on) refl }
+
   -- the phases that come next
-  to-done : (b : Reader) → Next doc r b (piece .to) Phase.Done
-  to-done b = record { in-place = refl; falls = omega arith }
+  to-end : Next doc r (marked r) (piece .to) Phase.Done
+  to-end = record { in-place = refl; falls = omega (arith, owed-marked r) }
+
+  -- where there is something to read
+  to-done : length doc - piece .from + 1 ≤ rank doc r → Next doc r r (piece .to) Phase.Done
+  to-done near = record { in-place = refl; falls = omega (arith, near) }
 
   -- a piece with bytes
   module _ (some : Some doc r piece) where
-    to-text : (b : Reader) → Next doc r b (piece .to) Phase.InsideText
-    to-text b = record { in-place = refl; falls = omega (arith, f, some) }
+    to-text : (b : Reader) → owed b ≤ owed r → Next doc r b (piece .to) Phase.InsideText
+    to-text b m = record { in-place = refl; falls = omega (arith, f, some) }
 
-    to-next : (b : Reader) (next : Phase) → Lands doc (piece .to) next → Next doc r b (piece .to) next
+    to-next : (next : Phase) → Lands doc (piece .to) next → Next doc r r (piece .to) next
     unfolding moved
-    to-next b Phase.Init l = absurd l
-    to-next b Phase.InsideText l = to-text b
-    to-next b Phase.InsideMarkup l = record { in-place = eq-eqb _ _ l; falls = omega (arith, f, some) }
-    to-next b Phase.InsideRef l = record { in-place = eq-eqb _ _ l; falls = omega (arith, f, some) }
-    to-next b Phase.InsideEmpty l = absurd l
-    to-next b Phase.Done l = to-done b
+    to-next Phase.Init l = absurd l
+    to-next Phase.InsideText l = to-text r (omega arith)
+    to-next Phase.InsideMarkup l = record { in-place = eq-eqb _ _ l; falls = omega (arith, f, some) }
+    to-next Phase.InsideRef l = record { in-place = eq-eqb _ _ l; falls = omega (arith, f, some) }
+    to-next Phase.InsideEmpty l = absurd l
+    to-next Phase.Done l = to-done (some .near)
 
   -- ---- an answer that says nothing of names
 
@@ -262,46 +313,64 @@ module _ (doc : List ℕ) (cap : ℕ) (last : Span) (r : Reader) (piece : Span) 
       → Turn (told r (event kind piece content name) next)
   unfolding told moved
   told-quiet kind content name next n w q =
-      told-turn r kind content name next (like-itself r) n w (λ e. absurd (q .2 e)) (λ e. absurd (q .3 e)) (keeps (q .0, q .1, omega arith) refl)
+      told-turn r kind content name next (twin-itself r .like) n w (told-on r kind content name next (twin-itself r) (q .2)) (λ e. absurd (q .3 e)) (keeps (q .0, q .1, omega arith) refl)
 
   refused-quiet : (error : Error) (place : Position) (next : Phase) → Next doc r r (piece .to) next → ((next ≡ Phase.Done → ⊥) → Octets (bytes doc piece))
-      → PlainError error → Turn (refused r error place piece next)
+      → PlainError error → endsRun (numberedOf error .number) ≡ false → Turn (refused r error place piece next)
   unfolding refused moved
-  refused-quiet error place next n w p =
-      refused-turn r error place next (like-itself r) n w (λ e. absurd (p .1 e), λ e. absurd (p .2 e)) (keeps (λ e. omega arith, λ e. omega arith, p .0) refl)
+  refused-quiet error place next n w p off =
+      refused-turn r error place next (twin-itself r .like) n w (refused-on r error place next (twin-itself r) (p .3) off) (λ e. absurd (p .1 e), λ e. absurd (p .2 e))
+      (keeps (λ e. omega arith, λ e. omega arith, p .0) refl)
 
-  stopped-quiet : (error : Error) (place : Position) → PlainError error → Turn (stopped r error place piece)
-  unfolding stopped
-  stopped-quiet error place p = refused-quiet error place Phase.Done (to-done r) (λ n. absurd (n refl)) p
+  stopped-quiet : (error : Error) (place : Position) → StopError error → Turn (stopped r error place piece)
+  unfolding stopped refused moved marked
+  stopped-quiet error place p =
+      refused-turn (marked r) error place Phase.Done (like-marked r) to-end (λ n. absurd (n refl)) (stopped-off error place (p .0 .3) (p .1))
+      (λ e. absurd (p .0 .1 e), λ e. absurd (p .0 .2 e)) (keeps (λ e. omega arith, λ e. omega arith, p .0 .0) refl)
 
-  ended-quiet : Octets (bytes doc piece) → Turn (ended r piece)
-  unfolding ended told moved
-  ended-quiet w = told-turn r Kind.Eof _ 0 Phase.Done (like-itself r) (to-done r) w (λ _. refl) (λ e. absurd (omega arith)) (keeps (omega arith) refl)
+  -- ---- the end
+
+  eof-turn : Octets (bytes doc piece) → stillOpen r ≡ false → Turn (ended r piece)
+  unfolding ended told moved marked
+  eof-turn w e =
+      told-turn (marked r) Kind.Eof _ 0 Phase.Done (like-marked r) to-end w
+      (record { over = λ _. (refl, e); unclosed = λ e. absurd (omega arith); mark = refl }) (λ e. absurd (omega arith)) (keeps (omega arith) refl)
+
+  -- 18
+  unclosed-turn : stillOpen r ≡ true → Turn (stopped r Error.UnclosedElements (at (last .from)) piece)
+  unfolding stopped refused moved marked
+  unclosed-turn e =
+      refused-turn (marked r) Error.UnclosedElements _ Phase.Done (like-marked r) to-end (λ n. absurd (n refl))
+      (record { over = λ e. absurd (omega arith); unclosed = λ _. (refl, e, refl); mark = refl }) (λ e. absurd (omega arith), λ e. absurd (omega arith)) (keeps (omega arith) refl)
+
+  end-turn : Octets (bytes doc piece) → Turn (ending r last piece)
+  unfolding ending
+  end-turn w = pick-cases Turn (stillOpen r) _ _ (λ e. unclosed-turn e) (λ e. eof-turn w e)
 
   -- ---- text, references, comments, CDATA, processing instructions
 
-  last-turn : Octets (bytes doc piece) → Turn (emitLastText doc r piece)
+  last-turn : length doc - piece .from + 1 ≤ rank doc r → Octets (bytes doc piece) → Turn (emitLastText doc r last piece)
   unfolding emitLastText emitText
-  last-turn w =
+  last-turn near w =
       pick-cases Turn (eqb (size (textContent doc (r .settings) piece)) 0) _ _
-      (λ _. ended-quiet w)
-      (λ _. told-quiet Kind.Text _ 0 Phase.Done (to-done r) w (omega arith))
+      (λ _. end-turn w)
+      (λ _. told-quiet Kind.Text _ 0 Phase.Done (to-done near) w (omega arith))
 
   module _ (some : Some doc r piece) where
     text-turn : (next : Phase) → Lands doc (piece .to) next → Turn (emitText doc r piece next)
     unfolding emitText
-    text-turn next l = told-quiet Kind.Text _ 0 next (to-next some r next l) (some .whole) (omega arith)
+    text-turn next l = told-quiet Kind.Text _ 0 next (to-next some next l) (some .whole) (omega arith)
 
     dangling-turn : (next : Phase) → Lands doc (piece .to) next → Turn (emitDangling r piece next)
     unfolding emitDangling
     dangling-turn next l =
         pick-cases Turn (r .settings .«allow_dangling_amp») _ _
-        (λ _. told-quiet Kind.Text piece 0 next (to-next some r next l) (some .whole) (omega arith))
-        (λ _. refused-quiet Error.UnclosedReference _ next (to-next some r next l) (λ _. some .whole) (omega arith))
+        (λ _. told-quiet Kind.Text piece 0 next (to-next some next l) (some .whole) (omega arith))
+        (λ _. refused-quiet Error.UnclosedReference _ next (to-next some next l) (λ _. some .whole) (omega arith) refl)
 
     -- an event after which text goes on
     plain-turn : (kind : Kind) (content : Span) (name : ℕ) → Silent kind → Turn (told r (event kind piece content name) Phase.InsideText)
-    plain-turn kind content name q = told-quiet kind content name Phase.InsideText (to-text some r) (some .whole) q
+    plain-turn kind content name q = told-quiet kind content name Phase.InsideText (to-text some r (omega arith)) (some .whole) q
 
     ref-turn : Turn (emitRef r piece)
     unfolding emitRef
@@ -315,7 +384,8 @@ module _ (doc : List ℕ) (cap : ℕ) (last : Span) (r : Reader) (piece : Span) 
     remark-turn : (content : Span) → (r .settings .«check_comments» ≡ true → TwoHyphens doc (inner piece 4 3) → ⊥) → Turn (bangEvent r Kind.Comment piece content)
     unfolding bangEvent told moved
     remark-turn content u =
-        told-turn r Kind.Comment content 0 Phase.InsideText (like-itself r) (to-text some r) (some .whole) (λ e. absurd (omega arith)) (λ _. u) (keeps (omega arith) refl)
+        told-turn r Kind.Comment content 0 Phase.InsideText (twin-itself r .like) (to-text some r (omega arith)) (some .whole) (told-on r Kind.Comment content 0 Phase.InsideText (twin-itself r) (λ e. omega arith))
+        (λ _. u) (keeps (omega arith) refl)
 
     -- one whose hyphens are looked for
     checked-turn : r .settings .«check_comments» ≡ true → Turn (checkedComment doc r piece (inner piece 4 3))
@@ -326,7 +396,8 @@ module _ (doc : List ℕ) (cap : ℕ) (last : Span) (r : Reader) (piece : Span) 
         first-cases Turn (pairFound doc from) _ _
         (λ p e. pick-cases Turn (ltb to p) _ _
         (λ t. remark-turn _ (λ _ h. pair-behind doc from to p e (ltb-true to p t) (h .0) (h .1)))
-        (λ t. refused-turn r Error.DoubleHyphenInComment _ Phase.InsideText (like-itself r) (to-text some r) (λ _. some .whole)
+        (λ t. refused-turn r Error.DoubleHyphenInComment _ Phase.InsideText (twin-itself r .like) (to-text some r (omega arith)) (λ _. some .whole)
+        (refused-on r Error.DoubleHyphenInComment _ Phase.InsideText (twin-itself r) (λ e. omega arith) refl)
         (λ _. (on, pair-first doc from to p e (ltb-false to p t)), λ e. absurd (omega arith)) (keeps (omega arith) refl)))
         (λ e. remark-turn _ (λ _ h. pair-nowhere doc from to e (h .0) (h .1)))
 
@@ -335,20 +406,20 @@ module _ (doc : List ℕ) (cap : ℕ) (last : Span) (r : Reader) (piece : Span) 
     comment-turn =
         pick-cases Turn (begins (drop (piece .from) doc) commentOpener) _ _
         (λ _. pick-cases Turn (r .settings .«check_comments») _ _ (λ on. checked-turn on) (λ off. remark-turn _ (λ on. clash _ on off)))
-        (λ _. stopped-quiet Error.UnclosedComment _ (omega arith))
+        (λ _. stopped-quiet Error.UnclosedComment _ (omega arith, refl))
 
     cdata-turn : Turn (emitCData doc r piece)
     unfolding emitCData
     cdata-turn =
         pick-cases Turn (begins (drop (piece .from) doc) cdataOpener) _ _
         (λ _. bang-turn Kind.CData _ (omega arith))
-        (λ _. stopped-quiet Error.UnclosedCData _ (omega arith))
+        (λ _. stopped-quiet Error.UnclosedCData _ (omega arith, refl))
 
     question-turn : Turn (emitQuestionMark doc r piece)
     unfolding emitQuestionMark questionEvent
     question-turn =
         pick-cases Turn (ltb (size piece) 4) _ _
-        (λ _. stopped-quiet Error.UnclosedPI _ (omega arith))
+        (λ _. stopped-quiet Error.UnclosedPI _ (omega arith, refl))
         (λ _. pick-cases (λ (e : Event). Turn (told r e Phase.InsideText)) (isDecl (bytes doc (inner piece 2 2))) _ _
         (λ _. plain-turn Kind.Decl _ 3 (omega arith))
         (λ _. plain-turn Kind.PI _ _ (omega arith)))
@@ -358,31 +429,40 @@ module _ (doc : List ℕ) (cap : ℕ) (last : Span) (r : Reader) (piece : Span) 
     module _ (name : Span) where
       stray-turn : r .depth .0 ≡ 0 → r .settings .«allow_unmatched_ends» ≡ true → Turn (endEvent r piece name)
       unfolding endEvent told moved
-      stray-turn z on = told-turn r Kind.End name _ Phase.InsideText (like-itself r) (to-text some r) (some .whole) (λ e. absurd (omega arith)) (λ e. absurd (omega arith)) (closes-nothing refl z z on)
+      stray-turn z on =
+          told-turn r Kind.End name _ Phase.InsideText (twin-itself r .like) (to-text some r (omega arith)) (some .whole)
+          (told-on r Kind.End name _ Phase.InsideText (twin-itself r) (λ e. omega arith)) (λ e. absurd (omega arith)) (closes-nothing refl z z on)
 
       unmatched-turn : r .depth .0 ≡ 0 → Turn (unmatched r piece name)
       unfolding unmatched refused moved
       unmatched-turn z =
           pick-cases Turn (r .settings .«allow_unmatched_ends») _ _
           (λ on. stray-turn z on)
-          (λ off. refused-turn r (Error.UnmatchedEndTag name) _ Phase.InsideText (like-itself r) (to-text some r) (λ _. some .whole)
+          (λ off. refused-turn r (Error.UnmatchedEndTag name) _ Phase.InsideText (twin-itself r .like) (to-text some r (omega arith)) (λ _. some .whole)
+          (refused-on r (Error.UnmatchedEndTag name) _ Phase.InsideText (twin-itself r) (λ e. omega arith) refl)
           (λ e. absurd (omega arith), λ e. absurd (omega arith)) (unmatches refl z z off))
 
       -- b has one name fewer
-      module _ (z : 0 < r .depth .0) (b : Reader) (l : Like r b) (d : b .depth .0 ≡ r .depth .0 - 1) where
-        end-turn : (r .settings .«check_end_names» ≡ true → bytes doc name ≡ bytes doc last) → Turn (endEvent b piece name)
+      module _ (z : 0 < r .depth .0) (b : Reader) (l : Twin r b) (d : b .depth .0 ≡ r .depth .0 - 1) where
+        onward : Next doc r b (piece .to) Phase.InsideText
+        onward = to-text some b (twin-owed r b l (omega arith))
+
+        closed-turn : (r .settings .«check_end_names» ≡ true → bytes doc name ≡ bytes doc last) → Turn (endEvent b piece name)
         unfolding endEvent told moved
-        end-turn same = told-turn b Kind.End name _ Phase.InsideText l (to-text some b) (some .whole) (λ e. absurd (omega arith)) (λ e. absurd (omega arith)) (closes refl z d same)
+        closed-turn same =
+            told-turn b Kind.End name _ Phase.InsideText (l .like) onward (some .whole) (told-on b Kind.End name _ Phase.InsideText l (λ e. omega arith))
+            (λ e. absurd (omega arith)) (closes refl z d same)
 
         matched-turn : Turn (matched doc b last piece name)
         unfolding matched refused moved
         matched-turn =
-            let on = ap (λ (c : Config). c .«check_end_names») (l .settings) in
+            let on = ap (λ (c : Config). c .«check_end_names») (l .like .settings) in
             pick-cases Turn (differs doc (b .settings) last name) _ _
             (λ e. let x = disagrees doc (b .settings) last name e in
-            refused-turn _ (Error.MismatchedEndTag last name) _ Phase.InsideText l (to-text some _) (λ _. some .whole) (λ e. absurd (omega arith), λ e. absurd (omega arith))
+            refused-turn b (Error.MismatchedEndTag last name) _ Phase.InsideText (l .like) onward (λ _. some .whole)
+            (refused-on b (Error.MismatchedEndTag last name) _ Phase.InsideText l (λ e. omega arith) refl) (λ e. absurd (omega arith), λ e. absurd (omega arith))
             (mismatches refl z d (sym on ∙ x .0) refl (x .1)))
-            (λ e. end-turn (λ h. agrees doc (b .settings) last name e (on ∙ h)))
+            (λ e. closed-turn (λ h. agrees doc (b .settings) last name e (on ∙ h)))
 
     close-turn : Turn (emitEnd doc r last piece)
     unfolding emitEnd withDepth
@@ -390,31 +470,31 @@ module _ (doc : List ℕ) (cap : ℕ) (last : Span) (r : Reader) (piece : Span) 
         pick-cases Turn (eqb (r .depth .0) 0) _ _
         (λ e. unmatched-turn _ (eqb-true _ _ e))
         (λ e. let n : r .depth .0 ≡ 0 → ⊥ = eqb-false _ _ e in
-        matched-turn _ (omega arith) _ (record { size = refl; settings = refl }) refl)
+        matched-turn _ (omega arith) _ (record { like = record { size = refl; settings = refl }; mark = refl }) refl)
 
     -- ---- opening tags
 
     to-empty : (b : Reader) → b .depth .0 ≡ r .depth .0 + 1 → piece .from + 2 < piece .to → Next doc r b (piece .to) Phase.InsideEmpty
     unfolding moved
-    to-empty b d h = record { in-place = lt-ltb 0 (b .depth .0) (omega arith); falls = omega (arith, f, some) }
+    to-empty b d h = record { in-place = lt-ltb 0 (b .depth .0) (omega arith); falls = omega (arith, f, some, owed-few b) }
 
     -- a tag that begins with `<` and has a byte more, and what is answered where there is no room for its name
     module _ (bracket : getD doc (piece .from) 0 ≡ lt) (two : piece .from + 2 ≤ piece .to) (full : Turn (stopped r Error.NameStackFull (at (piece .from)) (span (piece .from) (piece .from)))) where
       module _ (content : Span) (next : Phase) (n : (b : Reader) → b .depth .0 ≡ r .depth .0 + 1 → Next doc r b (piece .to) next)
           (first : content .from ≡ piece .from + 1) (o : content .from ≤ content .to) (w : content .to ≤ piece .to) (x : slashed doc piece ≡ true → next ≡ Phase.InsideEmpty) where
         -- b has one name more
-        added-turn : (b : Reader) → Like r b → b .depth .0 ≡ r .depth .0 + 1 → r .depth .0 < cap
+        added-turn : (b : Reader) → Twin r b → b .depth .0 ≡ r .depth .0 + 1 → r .depth .0 < cap
             → Turn (told b (event Kind.Start piece content (nameLen (bytes doc content))) next)
         unfolding told moved
         added-turn b l d room =
-            told-turn b Kind.Start content _ next l (n b d) (some .whole) (λ e. absurd (omega arith)) (λ e. absurd (omega arith))
+            told-turn b Kind.Start content _ next (l .like) (n b d) (some .whole) (told-on b Kind.Start content _ next l (λ e. omega arith)) (λ e. absurd (omega arith))
             (opens refl room d (record { ordered = o; within = w; named = refl; opens = bracket; starts = first; expands = x }))
 
         opened-turn : Turn (opening r (depthOf cap) (tag doc Kind.Start piece content) next)
         unfolding opening tag withDepth
         opened-turn =
             pick-cases Turn (ltb (r .depth .0) cap) _ _
-            (λ e. added-turn _ (record { size = refl; settings = refl }) refl (ltb-true _ _ e))
+            (λ e. added-turn _ (record { like = record { size = refl; settings = refl }; mark = refl }) refl (ltb-true _ _ e))
             (λ _. full)
 
       start-turn : Turn (emitStart doc r (depthOf cap) piece)
@@ -427,7 +507,7 @@ module _ (doc : List ℕ) (cap : ℕ) (last : Span) (r : Reader) (piece : Span) 
           opened-turn _ Phase.InsideEmpty (λ b d. to-empty b d long) (inner-first 2 (omega arith)) (i .0) (i .1) (λ _. refl))
           (λ _. plain-turn Kind.Empty _ _ (omega arith)))
           (λ e. let i = inner-lies piece 1 1 (f .ordered) in
-          opened-turn _ Phase.InsideText (λ b d. to-text some b) (inner-first 1 (omega arith)) (i .0) (i .1) (λ t. clash _ t e))
+          opened-turn _ Phase.InsideText (λ b d. record { in-place = refl; falls = omega (arith, f, some, owed-few b) }) (inner-first 1 (omega arith)) (i .0) (i .1) (λ t. clash _ t e))
         where
           inner-first : (back : ℕ) → piece .from + 1 + back ≤ piece .to → inner piece 1 back .from ≡ piece .from + 1
           inner-first back h = ap (λ (x : Span). x .from) (sym (fits piece 1 back (omega arith) (omega arith) (omega arith)))
@@ -467,14 +547,14 @@ module _ (doc : List ℕ) (cap : ℕ) (last : Span) (r : Reader) where
   full-turn piece f =
       stopped-quiet doc cap last r (span (piece .from) (piece .from))
       (record { after = f .after; ordered = omega arith; within = omega (arith, f); passed = f .passed })
-      Error.NameStackFull _ (omega arith)
+      Error.NameStackFull _ (omega arith, refl)
 
   -- 13
   ill-turn : (piece : Span) → Fits doc r piece → (p : ℕ) → FirstIll doc piece p → Turns (stopped r Error.Encoding (at p) piece)
-  unfolding stopped refused moved
+  unfolding stopped refused moved marked
   ill-turn piece f p x =
-      refused-turn doc cap last r piece f r Error.Encoding (at p) Phase.Done (like-itself r) (to-done doc cap last r piece f r) (λ n. absurd (n refl))
-      (λ e. absurd (omega arith), λ _. x) (keeps (omega arith) refl)
+      refused-turn doc cap last r piece f (marked r) Error.Encoding (at p) Phase.Done (like-marked r) (to-end doc cap last r piece f) (λ n. absurd (n refl))
+      (stopped-off doc cap last r piece f Error.Encoding (at p) (λ e. omega arith) refl) (λ e. absurd (omega arith), λ _. x) (keeps (omega arith) refl)
 
   module _ (piece : Span) (f : Fits doc r piece) (near : length doc - piece .from + 1 ≤ rank doc r) (whole : Octets (bytes doc piece)) where
     some : piece .from + 1 ≤ piece .to → Some doc r piece
@@ -483,7 +563,7 @@ module _ (doc : List ℕ) (cap : ℕ) (last : Span) (r : Reader) where
     emitted-turn : (shape : Shape) (next : Phase) → piece .from + fewest shape ≤ piece .to → Opens doc (piece .from) shape → Lands doc (piece .to) next
         → Turns (emittedAs doc r last (depthOf cap) shape piece next)
     emitted-turn Shape.Text next m o l = text-turn doc cap last r piece f (some m) next l
-    emitted-turn Shape.LastText next m o l = last-turn doc cap last r piece f whole
+    emitted-turn Shape.LastText next m o l = last-turn doc cap last r piece f near whole
     emitted-turn Shape.GeneralRef next m o l = ref-turn doc cap last r piece f (some m)
     emitted-turn Shape.Dangling next m o l = dangling-turn doc cap last r piece f (some m) next l
     emitted-turn Shape.Comment next m o l = comment-turn doc cap last r piece f (some m)
@@ -548,17 +628,19 @@ module _ (doc : List ℕ) (cap : ℕ) (last : Span) (r : Reader) where
 
     module _ (e : r .phase ≡ Phase.InsideEmpty) where
       -- b has one name fewer
-      expanded-end : (b : Reader) → Like r b → b .depth .0 ≡ r .depth .0 - 1 → Turns (endEvent b (span (r .position .0) (r .position .0)) last)
+      expanded-end : (b : Reader) → Twin r b → b .depth .0 ≡ r .depth .0 - 1 → Turns (endEvent b (span (r .position .0) (r .position .0)) last)
       unfolding endEvent told moved inPlace
       expanded-end b l d =
           let z : 0 < r .depth .0 = ltb-true _ _ (simp e at ok) in
+          let two : rank doc r ≡ length doc - r .position .0 + 2 = ap (rankAt doc (r .position .0)) e in
           told-turn doc cap last r (span (r .position .0) (r .position .0)) here b Kind.End last _
-          Phase.InsideText l (record { in-place = refl; falls = rw e (omega arith) }) nothing (λ e. absurd (omega arith)) (λ e. absurd (omega arith))
+          Phase.InsideText (l .like) (record { in-place = refl; falls = omega (arith, two, twin-owed r b l (omega arith)) }) nothing
+          (told-on doc cap last r (span (r .position .0) (r .position .0)) here b Kind.End last _ Phase.InsideText l (λ e. omega arith)) (λ e. absurd (omega arith))
           (closes refl z d (λ _. refl))
 
       expanded-turn : Turns (closeExpandedEmpty r last)
       unfolding closeExpandedEmpty withDepth
-      expanded-turn = expanded-end _ (record { size = refl; settings = refl }) refl
+      expanded-turn = expanded-end _ (record { like = record { size = refl; settings = refl }; mark = refl }) refl
 
     phase-turn : (p : Phase) → r .phase ≡ p → Turns (stepIn doc r last (depthOf cap) p)
     phase-turn Phase.Init e = text-from (begin doc) (from-start e)
@@ -566,7 +648,7 @@ module _ (doc : List ℕ) (cap : ℕ) (last : Span) (r : Reader) where
     phase-turn Phase.InsideMarkup e = taken-turn _ _ (stands Phase.InsideMarkup e (omega arith)) (markup-cut doc (r .position .0) in-doc (markup-at doc r ok e))
     phase-turn Phase.InsideRef e = taken-turn _ _ (stands Phase.InsideRef e (omega arith)) (ref-cut doc (r .position .0) in-doc (ref-at doc r ok e))
     phase-turn Phase.InsideEmpty e = expanded-turn e
-    phase-turn Phase.Done e = ended-quiet doc cap last r _ here nothing
+    phase-turn Phase.Done e = end-turn doc cap last r _ here nothing
 
 -- a call on a sound state is a turn
 pub step-turn : (doc stack : List ℕ) (r : Reader) → sound doc stack r ≡ true

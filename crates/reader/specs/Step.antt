@@ -1,6 +1,6 @@
--- One call (document 01, "Steps" and "When a call is refused"; the place of 13 by document 02). The order of refusals is the order in which a definition
--- hands on to the next: 17 in `step`; 14 and 8, and no closer (1 to 7), in the cutting of the piece; 13 in `checked`; the kind's own, and 15 last, in what the
--- piece becomes.
+-- One call (document 01, "Steps" and "When a call is refused"; the place of 13, and 18, by document 02). The order of refusals is the order in which a definition
+-- hands on to the next: 17 in `step`; 14 and 8, and no closer (1 to 7), in the cutting of the piece; 13 in `checked`; the kind's own, and 15 or 18 last, in what
+-- the piece becomes.
 use Prim.Native.Nat.{ℕ, _+_}
 use mathlib.Core.Path.{_≡_}
 use mathlib.Core.List.{List, [], _∷_}
@@ -20,7 +20,7 @@ use Rattle.state.specs.declared.run.Phase.{Phase}
 use Rattle.state.specs.declared.run.Step.{Step}
 use Rattle.state.specs.Limits.{capacity}
 use Rattle.state.specs.Place.{at, depthOf, span}
-use Rattle.state.specs.Make.{ended, stopped, badState}
+use Rattle.state.specs.Make.{ending, stopped, badState}
 use Rattle.emit.specs.Text.{emitText, emitLastText}
 use Rattle.emit.specs.Reference.{emitRef, emitDangling}
 use Rattle.emit.specs.Bang.{emitComment, emitCData}
@@ -38,7 +38,7 @@ module _ (doc : List ℕ) (r : Reader) (last : Span) (cap : Depth) where
   -- what a piece becomes
   abbrev pub emittedAs : Shape → Span → Phase → Step
   emittedAs Shape.Text piece next = emitText doc r piece next
-  emittedAs Shape.LastText piece next = emitLastText doc r piece
+  emittedAs Shape.LastText piece next = emitLastText doc r last piece
   emittedAs Shape.GeneralRef piece next = emitRef r piece
   emittedAs Shape.Dangling piece next = emitDangling r piece next
   emittedAs Shape.Comment piece next = emitComment doc r piece
@@ -85,8 +85,8 @@ module _ (doc : List ℕ) (r : Reader) (last : Span) (cap : Depth) where
   stepIn Phase.InsideMarkup = taken doc r last cap (cutMarkup doc (r .position .0))
   stepIn Phase.InsideRef = taken doc r last cap (cutRef doc (r .position .0))
   stepIn Phase.InsideEmpty = closeExpandedEmpty r last
-  -- "Done: Eof, all four numbers the position, nothing changed"
-  stepIn Phase.Done = ended r (span (r .position .0) (r .position .0))
+  -- "Done: Eof, all four numbers the position, nothing changed" but the mark; or 18
+  stepIn Phase.Done = ending r last (span (r .position .0) (r .position .0))
 
   unfoldable pub stepPhase : Step
   stepPhase = stepIn (r .phase)

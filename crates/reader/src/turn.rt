@@ -58,7 +58,7 @@ fn by_phase(reader: Reader, document: &[u8], last: Span, capacity: Depth) -> Ste
         Due::EmptyEnd => close_expanded_empty(reader, last),
         Due::Nothing => {
             let at = reader.position.0;
-            reader.eof(Span { from: at, to: at })
+            reader.end(last, Span { from: at, to: at })
         }
     }
 }
@@ -138,7 +138,7 @@ fn emit(reader: Reader, document: &[u8], last: Span, capacity: Depth, piece: Pie
     let next = piece.next;
     match shape {
         Shape::Text => emit_text(reader, document, span, next),
-        Shape::LastText => emit_last_text(reader, document, span),
+        Shape::LastText => emit_last_text(reader, document, last, span),
         Shape::GeneralRef => emit_ref(reader, span),
         Shape::Dangling => emit_dangling(reader, span, next),
         Shape::Comment => emit_comment(reader, document, span),

@@ -1,3 +1,4 @@
 pub mod Numbers
+pub mod Open
 pub mod Room
 pub mod Spans

@@ -20,7 +20,7 @@ kind-range Kind.Decl = omega arith
 kind-range Kind.PI = omega arith
 kind-range Kind.Eof = omega arith
 
-error-range : (e : Error) → (1 ≤ numberedOf e .number) × (numberedOf e .number ≤ 17)
+error-range : (e : Error) → (1 ≤ numberedOf e .number) × (numberedOf e .number ≤ 18)
 error-range Error.UnclosedTag = omega arith
 error-range Error.UnclosedSingleQuotedAttributeValue = omega arith
 error-range Error.UnclosedDoubleQuotedAttributeValue = omega arith
@@ -38,10 +38,11 @@ error-range Error.DocType = omega arith
 error-range Error.NameStackFull = omega arith
 error-range Error.SliceTooLong = omega arith
 error-range Error.BadState = omega arith
+error-range Error.UnclosedElements = omega arith
 
 pub answer-range : (a : Answer)
     → ((1 ≤ valuesOf a .kind) × (valuesOf a .kind ≤ 10) × (valuesOf a .number ≡ 0))
-    ⊎ ((valuesOf a .kind ≡ 0) × (1 ≤ valuesOf a .number) × (valuesOf a .number ≤ 17))
+    ⊎ ((valuesOf a .kind ≡ 0) × (1 ≤ valuesOf a .number) × (valuesOf a .number ≤ 18))
 answer-range (Answer.Event e) = let k = kind-range (e .kind) in inl (k .0, k .1, refl)
 answer-range (Answer.Refused x) = let n = error-range (x .error) in inr (refl, n .0, n .1)
 

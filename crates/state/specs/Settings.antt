@@ -1,8 +1,8 @@
--- The settings (document 01, "Settings").
+-- The settings (document 01, "Settings"; the ninth by document 02).
 use mathlib.Core.Bool.{Bool, true, false}
 use Rattle.state.specs.declared.config.Config.{Config}
 
--- "`check_end_names` and `trim_markup_names_in_closing_tags` on, the other six off"
+-- "`check_end_names` and `trim_markup_names_in_closing_tags` on, the other six off"; the ninth "off by default"
 abbrev pub defaults : Config
 defaults =
     record {
@@ -14,6 +14,7 @@ defaults =
       «trim_markup_names_in_closing_tags» = true;
       «trim_text_start» = false;
       «trim_text_end» = false;
+      «check_open_names» = false;
     }
 
 -- text trimmed at both ends or at neither
@@ -28,6 +29,7 @@ trimText c on =
       «trim_markup_names_in_closing_tags» = c .«trim_markup_names_in_closing_tags»;
       «trim_text_start» = on;
       «trim_text_end» = on;
+      «check_open_names» = c .«check_open_names»;
     }
 
 -- comments and closing names checked or neither
@@ -42,4 +44,5 @@ allChecks c on =
       «trim_markup_names_in_closing_tags» = c .«trim_markup_names_in_closing_tags»;
       «trim_text_start» = c .«trim_text_start»;
       «trim_text_end» = c .«trim_text_end»;
+      «check_open_names» = c .«check_open_names»;
     }

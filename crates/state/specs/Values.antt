@@ -1,5 +1,8 @@
 -- The paper's number and values for every answer. Kinds of event have numbers of our own: the paper numbers refusals only.
 use Prim.Native.Nat.{ℕ}
+use mathlib.Core.Bool.{Bool, true, false}
+use lib.Dec.{eqb, leb}
+use Rattle.ground.specs.Choose.{pick}
 use Rattle.state.specs.declared.answer.Kind.{Kind}
 use Rattle.state.specs.declared.answer.Event.{Event}
 use Rattle.state.specs.declared.answer.Error.{Error}
@@ -26,7 +29,8 @@ kindNumber Kind.Eof = 10
 abbrev pub spanless : ℕ → Numbered
 spanless n = record { number = n; expected = span 0 0; found = span 0 0 }
 
--- the refusals (document 01, "When a call is refused"): "MismatchedEndTag (with expected and found spans), UnmatchedEndTag (with found span)"
+-- the refusals (document 01, "When a call is refused"; 18 by document 02): "MismatchedEndTag (with expected and found spans), UnmatchedEndTag (with found
+-- span)"
 abbrev pub numberedOf : Error → Numbered
 numberedOf Error.UnclosedTag = spanless 1
 numberedOf Error.UnclosedSingleQuotedAttributeValue = spanless 2
@@ -45,6 +49,7 @@ numberedOf Error.DocType = spanless 14
 numberedOf Error.NameStackFull = spanless 15
 numberedOf Error.SliceTooLong = spanless 16
 numberedOf Error.BadState = spanless 17
+numberedOf Error.UnclosedElements = spanless 18
 
 -- "Each answer has a kind, the piece (start, end), the content (start, end) and a name length"; the rest is 0
 abbrev pub eventValues : Event → Values
@@ -77,3 +82,11 @@ refusalValues x =
 abbrev pub valuesOf : Answer → Values
 valuesOf (Answer.Event e) = eventValues e
 valuesOf (Answer.Refused x) = refusalValues x
+
+-- "a refusal that ended the run (1 to 8, 13 to 15)"
+abbrev pub endsRun : ℕ → Bool
+endsRun n = pick (leb n 8) (leb 1 n) (pick (leb 13 n) (leb n 15) false)
+
+-- the mark is "turned on by Eof (setting on or off), by 18 and by those refusals, kept by every other answer"
+abbrev pub turnsOn : Answer → Bool
+turnsOn a = pick (eqb (valuesOf a .kind) (kindNumber Kind.Eof)) true (pick (eqb (valuesOf a .number) 18) true (endsRun (valuesOf a .number)))

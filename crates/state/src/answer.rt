@@ -43,6 +43,7 @@ pub enum Error {
     NameStackFull,
     SliceTooLong,
     BadState,
+    UnclosedElements,
 }
 
 pub struct Refusal {
@@ -139,6 +140,7 @@ impl Error {
             Error::NameStackFull => spanless(15),
             Error::SliceTooLong => spanless(16),
             Error::BadState => spanless(17),
+            Error::UnclosedElements => spanless(18),
         }
     }
 }

@@ -19,6 +19,8 @@ pub struct Config {
     pub trim_text_start: bool,
     // White space after text is not in its content.
     pub trim_text_end: bool,
+    // A document may not end with names open.
+    pub check_open_names: bool,
 }
 
 impl Config {
@@ -35,6 +37,7 @@ impl Config {
             trim_markup_names_in_closing_tags: true,
             trim_text_start: false,
             trim_text_end: false,
+            check_open_names: false,
         }
     }
 
@@ -51,6 +54,7 @@ impl Config {
             trim_markup_names_in_closing_tags: self.trim_markup_names_in_closing_tags,
             trim_text_start: trim,
             trim_text_end: trim,
+            check_open_names: self.check_open_names,
         }
     }
 
@@ -67,6 +71,7 @@ impl Config {
             trim_markup_names_in_closing_tags: self.trim_markup_names_in_closing_tags,
             trim_text_start: self.trim_text_start,
             trim_text_end: self.trim_text_end,
+            check_open_names: self.check_open_names,
         }
     }
 }

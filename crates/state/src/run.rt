@@ -11,7 +11,7 @@ use crate::place::Position;
 use crate::place::Span;
 ghost use mathlib.Core.Path.{_≡_};
 ghost use lib.ListN.{length};
-ghost use Rattle.state.specs.Make.{made, moved as movedOf, withDepth, told, ended, stopped, refused, badState};
+ghost use Rattle.state.specs.Make.{made, moved as movedOf, withDepth, marked as markedOf, told, ended, stillOpen, ending, stopped, refused, badState};
 
 // What the next bytes are read as.
 pub enum Phase {
@@ -31,6 +31,8 @@ pub struct Reader {
     // How many bytes the document has.
     pub length: usize,
     pub settings: Config,
+    // Whether the run's end was told: by Eof, or by a refusal that ended the run.
+    pub mark: bool,
 }
 
 // What a call answers, and the reader after it.
@@ -64,6 +66,7 @@ impl Reader {
             depth: Depth(0),
             length,
             settings,
+            mark: false,
         })
     }
 
@@ -79,6 +82,7 @@ impl Reader {
             depth,
             length: self.length,
             settings,
+            mark: self.mark,
         }
     }
 
@@ -95,6 +99,25 @@ impl Reader {
             depth,
             length: self.length,
             settings,
+            mark: self.mark,
+        }
+    }
+
+    // The reader with its mark on.
+    fn marked(self) -> Reader
+        ensures { λ r. ⌜ r ≡ markedOf self ⌝ }
+    {
+        let phase = self.phase;
+        let position = self.position;
+        let depth = self.depth;
+        let settings = self.settings;
+        Reader {
+            phase,
+            position,
+            depth,
+            length: self.length,
+            settings,
+            mark: true,
         }
     }
 
@@ -109,8 +132,35 @@ impl Reader {
         }
     }
 
+    // End of file, or, while names are still open, its refusal. `last` is the latest open name.
+    pub fn end(self, last: Span, piece: Span) -> Step
+        ensures { λ r. ⌜ r ≡ ending self last piece ⌝ }
+    {
+        if self.still_open() {
+            self.stop(Error::UnclosedElements, Position(last.from), piece)
+        } else {
+            self.eof(piece)
+        }
+    }
+
+    // Whether the end is to be refused: names are open, that is asked for, and the end was not told yet.
+    fn still_open(self) -> bool
+        ensures { λ r. ⌜ r ≡ stillOpen self ⌝ }
+    {
+        let settings = self.settings;
+        if 0 < self.depth.0 {
+            if settings.check_open_names {
+                !self.mark
+            } else {
+                false
+            }
+        } else {
+            false
+        }
+    }
+
     // End of file. The content is empty at the piece's start.
-    pub fn eof(self, piece: Span) -> Step
+    fn eof(self, piece: Span) -> Step
         ensures { λ r. ⌜ r ≡ ended self piece ⌝ }
     {
         let content = Span {
@@ -123,14 +173,16 @@ impl Reader {
             content,
             name: 0,
         };
-        self.event(event, Phase::Done)
+        let ended = self.marked();
+        ended.event(event, Phase::Done)
     }
 
     // A refusal that ends the run.
     pub fn stop(self, error: Error, place: Position, piece: Span) -> Step
         ensures { λ r. ⌜ r ≡ stopped self error place piece ⌝ }
     {
-        self.refuse(error, place, piece, Phase::Done)
+        let ended = self.marked();
+        ended.refuse(error, place, piece, Phase::Done)
     }
 
     // A refusal, and the phase that comes next.

@@ -38,6 +38,7 @@ module _ {A : Type 0} where
   settings c k =
       flag (c .«allow_dangling_amp») (λ a. flag (c .«allow_unmatched_ends») (λ u. flag (c .«check_comments») (λ o. flag (c .«check_end_names») (λ n.
       flag (c .«expand_empty_elements») (λ x. flag (c .«trim_markup_names_in_closing_tags») (λ m. flag (c .«trim_text_start») (λ s. flag (c .«trim_text_end») (λ e.
+      flag (c .«check_open_names») (λ z.
       k (record {
         «allow_dangling_amp» = a;
         «allow_unmatched_ends» = u;
@@ -47,13 +48,14 @@ module _ {A : Type 0} where
         «trim_markup_names_in_closing_tags» = m;
         «trim_text_start» = s;
         «trim_text_end» = e;
-      })))))))))
+        «check_open_names» = z;
+      }))))))))))
 
   unfoldable pub world : World → (World → A) → A
   world w k =
       phase (w .reader .phase) (λ p. number (w .reader .position .0) (λ i. number (w .reader .depth .0) (λ d. number (w .reader .length) (λ l.
-      settings (w .reader .settings) (λ c. slots (w .stack) (λ s.
-      k (record { reader = record { phase = p; position = at i; depth = depthOf d; length = l; settings = c }; stack = s; answers = w .answers })))))))
+      settings (w .reader .settings) (λ c. flag (w .reader .mark) (λ m. slots (w .stack) (λ s.
+      k (record { reader = record { phase = p; position = at i; depth = depthOf d; length = l; settings = c; mark = m }; stack = s; answers = w .answers }))))))))
 
   number-is : (n : ℕ) (k : ℕ → A) → number n k ≡ k n
   unfolding number
@@ -85,7 +87,7 @@ module _ {A : Type 0} where
 
   world-is : (w : World) (k : World → A) → world w k ≡ k w
   unfolding world
-  world-is w k = simp (phase-is, number-is, settings-is, slots-is)
+  world-is w k = simp (phase-is, number-is, settings-is, flag-is, slots-is)
 
 module _ (side : Example → World → Side) (x : Example) where
   unfoldable pub settledFrom : World → ℕ → List Side

@@ -1,6 +1,6 @@
 -- The clauses of the demands at a call, each as two sides that must be the same. Where a clause says nothing of the call, both are empty.
 use Prim.Native.Nat.{ℕ, zero, suc, _+_}
-use mathlib.Core.Bool.{Bool, true, false}
+use mathlib.Core.Bool.{Bool, true, false, not}
 use mathlib.Core.List.{List, [], _∷_}
 use lib.ListN.{length, take, replicate}
 use lib.Dec.{leb}
@@ -9,10 +9,10 @@ use Rattle.white.specs.White.{nameLen}
 use Rattle.state.specs.declared.place.Span.{Span}
 use Rattle.state.specs.declared.answer.Answer.{Answer}
 use Rattle.state.specs.declared.run.Phase.{Phase}
-use Rattle.state.specs.Values.{valuesOf}
+use Rattle.state.specs.Values.{valuesOf, turnsOn}
 use Rattle.reader.specs.Names.{nameOf, bytes}
 use Rattle.demands.specs.Run.{World, said, call, run}
-use Rattle.demands.specs.Answers.{isStart, isEnd, isEof, isMismatch, isUnmatched, isBadState, count}
+use Rattle.demands.specs.Answers.{isStart, isEnd, isEof, isMismatch, isUnmatched, isUnclosed, isEnding, isBadState, count, oneIs}
 use Rattle.demands.specs.Open.{opened, newest, leftOpen}
 use Rattle.demands.specs.Openings.{Example}
 use Rattle.emit.specs.Start.{slashed}
@@ -27,6 +27,8 @@ pub record Side : Type 0 where
   pub keeps : List Span
   pub carries : List ℕ
   pub unmatched : List Span
+  pub whole : List Span
+  pub latest : ℕ
   pub counts : ℕ
   pub tests : List Bool
 
@@ -49,6 +51,11 @@ module _ (x : Example) (w : World) where
   abbrev carriesOne : Bool
   carriesOne = pick (x .settings .«allow_unmatched_ends») false (pick (x .settings .«check_end_names») (isEnd answer) false)
 
+  -- open names are checked, and Eof is answered after neither 18 nor a refusal that ended the run
+  abbrev endsWhole : Bool
+  endsWhole =
+      pick (x .settings .«check_open_names») (pick (isEof answer) (pick (oneIs isUnclosed (w .answers)) false (not (oneIs isEnding (w .answers)))) false) false
+
   abbrev pub left : Side
   left =
       record {
@@ -59,6 +66,8 @@ module _ (x : Example) (w : World) where
         keeps = pick keepsAll (opened after) [];
         carries = pick carriesOne (bytes doc (valuesOf answer .content)) [];
         unmatched = pick (isUnmatched answer) (opened w) [];
+        whole = pick endsWhole (opened w) [];
+        latest = pick (isUnclosed answer) (valuesOf answer .place) 0;
         counts = pick (x .settings .«allow_unmatched_ends») 0 (count isStart (w .answers));
         tests =
             sound doc (w .stack) (w .reader)
@@ -67,6 +76,9 @@ module _ (x : Example) (w : World) where
             ∷ pick (isMismatch answer) (isEnd answer) false
             ∷ pick (isStart answer) (pick (slashed doc (valuesOf answer .piece)) (isEnd (said doc after)) true) true
             ∷ pick (isEof answer) (isEof (said doc after)) true
+            ∷ pick (isUnclosed answer) (isEof (said doc after)) true
+            ∷ pick (isUnclosed answer) (oneIs turnsOn (w .answers)) false
+            ∷ w .reader .mark
             ∷ [];
       }
 
@@ -80,8 +92,10 @@ module _ (x : Example) (w : World) where
         keeps = pick keepsAll (opened w) [];
         carries = pick carriesOne (bytes doc (newest w)) [];
         unmatched = [];
+        whole = [];
+        latest = pick (isUnclosed answer) (newest w .from) 0;
         counts = pick (x .settings .«allow_unmatched_ends») 0 (count isEnd (w .answers) + count isMismatch (w .answers) + length (opened w));
-        tests = true ∷ false ∷ true ∷ false ∷ true ∷ true ∷ [];
+        tests = true ∷ false ∷ true ∷ false ∷ true ∷ true ∷ true ∷ false ∷ oneIs turnsOn (w .answers) ∷ [];
       }
 
 module _ (side : Example → World → Side) (x : Example) where

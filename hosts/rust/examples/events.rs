@@ -1,19 +1,23 @@
-//! Lists the events of a document, from a file or standard input: a line to each answer, up to the end of file.
+//! Lists the events of a document, from a file or standard input: a line to each answer, up to the end of file. With `--check-open-names`
+//! before the file's name a document that ends while names are open is refused (18) before its end of file.
 
 use sporebasket::{Error, Event, Reader};
 use std::io::{self, Read, Write};
 use std::{env, fs, process};
 
-/// The document named on the command line, or standard input.
-fn document() -> io::Result<Vec<u8>> {
-    match env::args_os().nth(1) {
-        Some(path) => fs::read(path),
+/// What the command line asks for: whether open names are checked, and the document that is named, or standard input.
+fn asked() -> io::Result<(bool, Vec<u8>)> {
+    let mut words = env::args_os().skip(1).peekable();
+    let check = words.next_if(|word| word == "--check-open-names").is_some();
+    let document = match words.next() {
+        Some(path) => fs::read(path)?,
         None => {
             let mut bytes = Vec::new();
             io::stdin().read_to_end(&mut bytes)?;
-            Ok(bytes)
+            bytes
         }
-    }
+    };
+    Ok((check, document))
 }
 
 fn word(event: &Event) -> &'static str {
@@ -32,8 +36,9 @@ fn word(event: &Event) -> &'static str {
 }
 
 /// An event has its piece, its content and the length of its name; a refusal its number and its place.
-fn list(document: &[u8], out: &mut impl Write) -> io::Result<()> {
+fn list(document: &[u8], check: bool, out: &mut impl Write) -> io::Result<()> {
     let mut reader = Reader::from_reader(document);
+    reader.config_mut().check_open_names = check;
     loop {
         match reader.read_event() {
             Ok(event) => {
@@ -65,8 +70,8 @@ fn list(document: &[u8], out: &mut impl Write) -> io::Result<()> {
 
 fn main() {
     let mut out = io::BufWriter::new(io::stdout().lock());
-    let done = document()
-        .and_then(|bytes| list(&bytes, &mut out))
+    let done = asked()
+        .and_then(|(check, document)| list(&document, check, &mut out))
         .and_then(|()| out.flush());
     if let Err(error) = done {
         eprintln!("events: {error}");

@@ -41,6 +41,7 @@ fn outline(document: &[u8], out: &mut impl Write) -> io::Result<()> {
     let mut reader = Reader::from_reader(document);
     reader.config_mut().trim_text(true);
     reader.config_mut().enable_all_checks(true);
+    reader.config_mut().check_open_names = true;
     loop {
         let indent = 2 * reader.depth();
         match reader.read_event() {

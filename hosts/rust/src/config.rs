@@ -2,7 +2,7 @@
 
 use crate::lent;
 
-/// The settings of a reader, under quick-xml's names.
+/// The settings of a reader: quick-xml's under their names, and [`check_open_names`](Config::check_open_names).
 ///
 /// They may be changed between two calls, by [`Reader::config_mut`](crate::Reader::config_mut).
 ///
@@ -11,7 +11,7 @@ use crate::lent;
 ///
 /// let settings = Config::default();
 /// assert!(settings.check_end_names && settings.trim_markup_names_in_closing_tags);
-/// assert!(!settings.check_comments && !settings.expand_empty_elements);
+/// assert!(!settings.check_comments && !settings.expand_empty_elements && !settings.check_open_names);
 /// ```
 #[derive(Clone, Copy, Debug, PartialEq, Eq, Hash)]
 #[non_exhaustive]
@@ -121,6 +121,25 @@ pub struct Config {
     /// # Ok::<(), sporebasket::Error>(())
     /// ```
     pub trim_text_end: bool,
+
+    /// A document that ends while names are open is [`UnclosedElements`](crate::IllFormedError::UnclosedElements), once, instead of the first
+    /// [`Eof`](crate::Event::Eof); but not after a refusal that ended the run. quick-xml has no such setting. Off by default.
+    ///
+    /// ```
+    /// use sporebasket::{Error, Event, IllFormedError, Reader};
+    ///
+    /// let mut reader = Reader::from_str("<t><r>06:15");
+    /// reader.config_mut().check_open_names = true;
+    /// for _ in 0..3 {
+    ///     assert_ne!(reader.read_event()?, Event::Eof);
+    /// }
+    /// let error = reader.read_event().unwrap_err();
+    /// assert_eq!(error, Error::IllFormed(IllFormedError::UnclosedElements("r".into())));
+    /// assert_eq!(reader.error_position(), 4);
+    /// assert_eq!(reader.read_event()?, Event::Eof);
+    /// # Ok::<(), Error>(())
+    /// ```
+    pub check_open_names: bool,
 }
 
 impl Config {
@@ -139,12 +158,12 @@ impl Config {
         self.trim_text_end = trim;
     }
 
-    /// Checks comments and the names of closing tags, or neither.
+    /// Checks comments and the names of closing tags, or neither: quick-xml's checks. [`check_open_names`](Config::check_open_names) stays as it is.
     ///
     /// ```
     /// let mut settings = sporebasket::Config::default();
     /// settings.enable_all_checks(true);
-    /// assert!(settings.check_comments && settings.check_end_names);
+    /// assert!(settings.check_comments && settings.check_end_names && !settings.check_open_names);
     /// ```
     pub fn enable_all_checks(&mut self, enable: bool) {
         self.check_comments = enable;
@@ -161,6 +180,7 @@ impl Config {
             | usize::from(self.trim_markup_names_in_closing_tags) << 5
             | usize::from(self.trim_text_start) << 6
             | usize::from(self.trim_text_end) << 7
+            | usize::from(self.check_open_names) << 8
     }
 
     /// The settings whose bits are set.
@@ -175,6 +195,7 @@ impl Config {
             trim_markup_names_in_closing_tags: on(5),
             trim_text_start: on(6),
             trim_text_end: on(7),
+            check_open_names: on(8),
         }
     }
 }
@@ -191,8 +212,23 @@ mod tests {
 
     #[test]
     fn bits_there_and_back() {
-        for bits in 0..256 {
+        for bits in 0..512 {
             assert_eq!(Config::from_bits(bits).bits(), bits);
+        }
+    }
+
+    #[test]
+    fn what_sets_two_flags_leaves_the_others_alone() {
+        for bits in 0..512 {
+            for on in [false, true] {
+                let turned = |two: usize| if on { bits | two } else { bits & !two };
+                let mut config = Config::from_bits(bits);
+                config.trim_text(on);
+                assert_eq!(config.bits(), turned(64 + 128));
+                config = Config::from_bits(bits);
+                config.enable_all_checks(on);
+                assert_eq!(config.bits(), turned(4 + 8));
+            }
         }
     }
 }

@@ -6,11 +6,11 @@ use std::error;
 use std::fmt;
 use std::str::Utf8Error;
 
-/// Why a call gave no event. Each refusal has a number of its own, 1 to 17.
+/// Why a call gave no event. Each refusal has a number of its own, 1 to 18.
 ///
 /// Where it is told stands with the reader: [`Reader::error_position`](crate::Reader::error_position) is the place to show a user, and
-/// [`Reader::piece`](crate::Reader::piece) what was refused. Reading can go on after it. After a refusal that ends the run the next call gives
-/// [`Eof`](crate::Event::Eof); only a reader over a document that is too long gives the same refusal for ever.
+/// [`Reader::piece`](crate::Reader::piece) what was refused. Reading can go on after it. After a refusal that ends the run, and after 18, the next
+/// call gives [`Eof`](crate::Event::Eof); only a reader over a document that is too long gives the same refusal for ever.
 ///
 /// ```
 /// use sporebasket::{Error, Event, IllFormedError, Reader};
@@ -32,7 +32,7 @@ use std::str::Utf8Error;
 pub enum Error {
     /// The document leaves the grammar: 1 to 8. It ends the run.
     Syntax(SyntaxError),
-    /// The document is not well formed: 9 to 12. Reading goes on behind the piece.
+    /// The document is not well formed: 9 to 12, and 18. Reading goes on behind the piece, with [`Eof`](crate::Event::Eof) behind that of 18.
     IllFormed(IllFormedError),
     /// The piece is not UTF-8: 13. Its place is the first byte of the first sequence that is not. It ends the run.
     Encoding(EncodingError),
@@ -108,13 +108,35 @@ pub enum IllFormedError {
     UnmatchedEndTag(String),
     /// 12: an `&` without its `;`.
     UnclosedReference,
+    /// 18: the document ends while names are open, of which this is the latest, where [`check_open_names`](crate::Config::check_open_names) is
+    /// on. Its place is the first byte of that name. They stay open: [`Reader::open_names`](crate::Reader::open_names) has them all. It comes
+    /// once, and not after a refusal that ended the run. quick-xml has the like, `MissingEndTag`, in its `read_to_end` alone.
+    ///
+    /// ```
+    /// use sporebasket::{Error, IllFormedError, Reader};
+    ///
+    /// let mut reader = Reader::from_str("<t><r>");
+    /// reader.config_mut().check_open_names = true;
+    /// reader.read_event()?;
+    /// reader.read_event()?;
+    /// match reader.read_event() {
+    ///     Err(Error::IllFormed(IllFormedError::UnclosedElements(latest))) => assert_eq!(latest, "r"),
+    ///     other => panic!("{other:?}"),
+    /// }
+    /// assert_eq!(reader.error_position(), 4);
+    /// assert!(reader.open_names().eq([b"t", b"r"]));
+    /// # Ok::<(), Error>(())
+    /// ```
+    UnclosedElements(String),
 }
 
-/// The bytes that a refusal tells: its piece; and the expected name and the one found, for the refusals that have them.
+/// The bytes that a refusal tells: its piece; the expected name and the one found, for the refusals that have them; and the latest open name, if
+/// one is open.
 pub(crate) struct Told<'a> {
     pub piece: &'a [u8],
     pub expected: &'a [u8],
     pub found: &'a [u8],
+    pub latest: &'a [u8],
 }
 
 fn owned(name: &[u8]) -> String {
@@ -149,6 +171,7 @@ impl Error {
             14 => Error::DocType,
             15 => Error::NameStackFull,
             16 => Error::SliceTooLong,
+            18 => IllFormedError::UnclosedElements(owned(told.latest)).into(),
             _ => Error::BadState,
         }
     }
@@ -178,6 +201,7 @@ impl Error {
                 IllFormedError::MismatchedEndTag { .. } => 10,
                 IllFormedError::UnmatchedEndTag(_) => 11,
                 IllFormedError::UnclosedReference => 12,
+                IllFormedError::UnclosedElements(_) => 18,
             },
             Error::Encoding(_) => 13,
             Error::DocType => 14,
@@ -250,6 +274,7 @@ impl fmt::Display for IllFormedError {
             }
             IllFormedError::UnmatchedEndTag(found) => write!(f, "`</{found}>` closes nothing"),
             IllFormedError::UnclosedReference => f.write_str("a reference lacks its `;`"),
+            IllFormedError::UnclosedElements(latest) => write!(f, "the document ends while `<{latest}>` is open"),
         }
     }
 }
@@ -269,20 +294,33 @@ mod tests {
             piece: b"</b\xFF>",
             expected: b"a",
             found: b"b",
+            latest: b"c",
         };
         Error::numbered(number, told)
     }
 
     #[test]
     fn numbers_there_and_back() {
-        for number in 1..=17 {
+        for number in 1..=18 {
             assert_eq!(usize::from(numbered(number).number()), number);
         }
     }
 
     #[test]
     fn every_text_is_its_own() {
-        let texts: std::collections::HashSet<_> = (1..=17).map(|n| numbered(n).to_string()).collect();
-        assert_eq!(texts.len(), 17);
+        let texts: std::collections::HashSet<_> = (1..=18).map(|n| numbered(n).to_string()).collect();
+        assert_eq!(texts.len(), 18);
+    }
+
+    #[test]
+    fn names_are_told() {
+        let texts = [
+            (10, "`</b>` stands where `</a>` is due"),
+            (11, "`</b>` closes nothing"),
+            (18, "the document ends while `<c>` is open"),
+        ];
+        for (number, text) in texts {
+            assert_eq!(numbered(number).to_string(), text);
+        }
     }
 }

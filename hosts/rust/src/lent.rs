@@ -16,8 +16,8 @@
 //! assert_eq!(lent::read_event(document, &mut stack, &mut state, &mut answer), 0);
 //! // a Start (1), no refusal, piece 0..3, content 1..2, and a name of one byte
 //! assert_eq!(answer, [1, 0, 0, 0, 3, 1, 2, 1, 0, 0, 0, 0]);
-//! // in text (1) at 3, one name open, 12 bytes, the default settings
-//! assert_eq!(state, [1, 3, 1, 12, 40]);
+//! // in text (1) at 3, one name open, 12 bytes, the default settings, the mark off
+//! assert_eq!(state, [1, 3, 1, 12, 40, 0]);
 //! // the open name
 //! assert_eq!(stack[..2], [1, 2]);
 //! ```
@@ -37,7 +37,8 @@ pub fn default_settings() -> usize {
     unsafe { raw::sporebasket_default_settings() }
 }
 
-/// Makes a reader over the document, in the first [`STATE_SLOTS`] slots of the state.
+/// Makes a reader over the document, in the first [`STATE_SLOTS`] slots of the state. Bits of the settings that stand for none do not count, and
+/// the mark is off.
 ///
 /// 16: the document is too long; 17: the state has too few slots. Then nothing is written.
 ///
@@ -69,14 +70,24 @@ pub fn new(document: &[u8], settings: usize, state: &mut [usize]) -> usize {
 /// the short one held in its first slots: every answer is then as if the longest had been lent from the start. More slots than
 /// [`MOST_NAMES`](crate::MOST_NAMES) take hold no more names.
 ///
+/// The mark, the last slot of a state, remembers that the end was told: 0 is off, any other number is on, and none is a reason for 17. Where it is
+/// 0, end of file and refusals 1 to 8, 13 to 15 and 18 write 1. No other answer writes there, and 18 is given only where it is off.
+///
 /// ```
 /// use sporebasket::lent;
 ///
 /// let mut answer = [0; lent::ANSWER_SLOTS];
 /// // a position past the end
-/// let mut state = [1, 9, 0, 4, 40];
+/// let mut state = [1, 9, 0, 4, 40, 0];
 /// assert_eq!(lent::read_event(b"<a/>", &mut [], &mut state, &mut answer), 17);
-/// assert_eq!(state, [1, 9, 0, 4, 40]);
+/// assert_eq!(state, [1, 9, 0, 4, 40, 0]);
+///
+/// // the end of `<a>`, with `check_open_names`: 18 at 1, then end of file (10)
+/// let (mut state, mut stack) = ([1, 3, 1, 3, 40 + 256, 0], [1, 2]);
+/// assert_eq!(lent::read_event(b"<a>", &mut stack, &mut state, &mut answer), 18);
+/// assert_eq!((state, answer[2]), ([5, 3, 1, 3, 40 + 256, 1], 1));
+/// assert_eq!(lent::read_event(b"<a>", &mut stack, &mut state, &mut answer), 0);
+/// assert_eq!(answer[0], 10);
 /// ```
 #[inline]
 pub fn read_event(document: &[u8], stack: &mut [usize], state: &mut [usize], answer: &mut [usize]) -> usize {

@@ -22,8 +22,10 @@
 //! # Ok::<(), Box<dyn std::error::Error>>(())
 //! ```
 //!
-//! What is refused has a number, 1 to 17, and a place: see [`Error`]. A document has at most [`LONGEST`] bytes, at most [`MOST_NAMES`] names
-//! are open at once, and a document type is refused. Attributes and references are handed over as they stand.
+//! What is refused has a number, 1 to 18, and a place: see [`Error`]. A document has at most [`LONGEST`] bytes, at most [`MOST_NAMES`] names
+//! are open at once, and a document type is refused. Attributes and references are handed over as they stand. With
+//! [`check_open_names`](Config::check_open_names) a document that ends while names are open is refused: where [`Eof`](Event::Eof) comes and no error
+//! before it, every element was closed.
 //!
 //! Nothing is shared between readers, so each may be used on a thread of its own. A reader allocates
 //! room for open names, when it has none left for one more; a refusal owns the names that it tells. Hosts that lend all memory themselves use [`lent`].

@@ -49,8 +49,8 @@ pub const MOST_NAMES: usize = 65_535;
 /// The slots of the stack that a name takes: its start and its end.
 pub const NAME_SLOTS: usize = 2;
 
-/// The slots of a reader's state: phase, position, depth, length and settings.
-pub const STATE_SLOTS: usize = 5;
+/// The slots of a reader's state: phase, position, depth, length, settings and the mark.
+pub const STATE_SLOTS: usize = 6;
 
 /// The slots of an answer: kind, number, place, piece, content, name, expected and found, a span in two slots.
 pub const ANSWER_SLOTS: usize = 12;

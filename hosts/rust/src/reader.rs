@@ -73,7 +73,7 @@ pub enum Phase {
     InsideRef,
     /// It owes the End of an expanded empty element.
     InsideEmpty,
-    /// It gives only [`Eof`](Event::Eof).
+    /// It gives only [`Eof`](Event::Eof), or before it, once, [`UnclosedElements`](crate::IllFormedError::UnclosedElements).
     Done,
 }
 
@@ -199,7 +199,8 @@ impl<'a> Reader<'a> {
     }
 
     /// The place of the last refusal, to be shown to a user; 0 if there was none. It is where the piece begins, but for two hyphens in a comment,
-    /// where it is the first of them, and for a piece that is not UTF-8, where it is the first byte of the first sequence that is not.
+    /// where it is the first of them, for a piece that is not UTF-8, where it is the first byte of the first sequence that is not, and for a document
+    /// that ends while names are open, where it is the first byte of the latest of them.
     ///
     /// ```
     /// let mut reader = sporebasket::Reader::from_str("<a></b>");
@@ -349,6 +350,7 @@ impl<'a> Reader<'a> {
             piece: self.bytes(answer::PIECE),
             expected: self.bytes(answer::EXPECTED),
             found: self.bytes(answer::FOUND),
+            latest: self.open_names().next_back().unwrap_or_default(),
         };
         Error::numbered(if self.made == 0 { number } else { self.made }, told)
     }

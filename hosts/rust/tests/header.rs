@@ -85,7 +85,7 @@ fn kinds() {
 #[test]
 fn refusals() {
     let header = Header::read();
-    let rows: [(&str, usize, &[u8], &[&str]); 16] = [
+    let rows: [(&str, usize, &[u8], &[&str]); 17] = [
         ("UNCLOSED_TAG", 1, b"<", &[]),
         ("UNCLOSED_SINGLE_QUOTED_ATTRIBUTE_VALUE", 1, b"<'", &[]),
         ("UNCLOSED_DOUBLE_QUOTED_ATTRIBUTE_VALUE", 1, b"<\"", &[]),
@@ -102,13 +102,15 @@ fn refusals() {
         ("ENCODING", 1, b"\xFF", &[]),
         ("DOCTYPE", 1, b"<!D", &[]),
         ("NAME_STACK_FULL", 2, b"<a><b>", &[]),
+        ("UNCLOSED_ELEMENTS", 2, b"<a>", &["CHECK_OPEN_NAMES"]),
     ];
     for (refusal, calls, document, settings) in rows {
         let (_, answer) = header.after(calls, document, settings);
         assert_eq!(answer[header.get("ANSWER_NUMBER")], header.get(refusal), "{refusal}");
     }
     let too_long = vec![0; header.get("LONGEST") + 1];
-    assert_eq!(lent::new(&too_long, 0, &mut [0; 5]), header.get("SLICE_TOO_LONG"));
+    let mut state = [0; lent::STATE_SLOTS];
+    assert_eq!(lent::new(&too_long, 0, &mut state), header.get("SLICE_TOO_LONG"));
     assert_eq!(lent::new(b"", 0, &mut []), header.get("BAD_STATE"));
 }
 
@@ -134,7 +136,13 @@ fn slots_of_a_state_and_of_an_answer() {
     let header = Header::read();
     let settings = ["TRIM_TEXT_START", "TRIM_TEXT_END"];
     let (state, answer) = header.after(1, b"  ab  <", &settings);
-    let slots = [("POSITION", 6), ("DEPTH", 0), ("LENGTH", 7), ("SETTINGS", 64 + 128)];
+    let slots = [
+        ("POSITION", 6),
+        ("DEPTH", 0),
+        ("LENGTH", 7),
+        ("SETTINGS", 64 + 128),
+        ("MARK", 0),
+    ];
     for (slot, value) in slots {
         assert_eq!(state[header.get(&format!("STATE_{slot}"))], value, "{slot}");
     }
@@ -152,6 +160,11 @@ fn slots_of_a_state_and_of_an_answer() {
     assert_eq!(
         (state[header.get("STATE_DEPTH")], answer[header.get("ANSWER_NAME")]),
         (1, 3)
+    );
+    let (state, _) = header.after(1, b"", &["CHECK_OPEN_NAMES"]);
+    assert_eq!(
+        (state[header.get("STATE_SETTINGS")], state[header.get("STATE_MARK")]),
+        (256, 1)
     );
     let (_, answer) = header.after(2, b"<a></bc>", &["CHECK_END_NAMES"]);
     let slots = [

@@ -32,14 +32,14 @@ fn a_state_over_a_byte_more_is_refused() {
     let document = vec![b'a'; LONGEST + 1];
     let settings = lent::default_settings();
     for (length, number) in [(LONGEST, 0), (LONGEST + 1, 17)] {
-        let fresh = [0, 0, 0, length, settings];
+        let fresh = [0, 0, 0, length, settings, 0];
         let mut state = fresh;
         let mut answer = [0; lent::ANSWER_SLOTS];
         assert_eq!(
             lent::read_event(&document[..length], &mut [], &mut state, &mut answer),
             number
         );
-        let done = [5, length, 0, length, settings];
+        let done = [5, length, 0, length, settings, 0];
         assert_eq!(state, if number == 0 { done } else { fresh });
     }
 }
@@ -126,9 +126,9 @@ fn too_few_slots_are_refused() {
         assert_eq!(answer, [0, 17, 0, 0, 0, 0, 0, 0, 0, 0, 0, 0]);
     }
     for slots in 0..lent::ANSWER_SLOTS {
-        let (mut state, mut stack, mut answer) = ([0, 0, 0, 3, 40], [9; 4], vec![9; slots]);
+        let (mut state, mut stack, mut answer) = ([0, 0, 0, 3, 40, 0], [9; 4], vec![9; slots]);
         assert_eq!(lent::read_event(document, &mut stack, &mut state, &mut answer), 17);
-        assert_eq!((state, stack, answer), ([0, 0, 0, 3, 40], [9; 4], vec![9; slots]));
+        assert_eq!((state, stack, answer), ([0, 0, 0, 3, 40, 0], [9; 4], vec![9; slots]));
     }
     for slots in 0..lent::PART_SLOTS {
         let mut part = vec![9; slots];
@@ -140,23 +140,43 @@ fn too_few_slots_are_refused() {
 #[test]
 fn slots_to_spare_are_left_alone() {
     let document = b"<a>";
-    let (mut state, mut stack, mut answer) = ([9; 7], [9; 5], [9; 14]);
+    let (mut state, mut stack, mut answer) = ([9; 8], [9; 5], [9; 14]);
     assert_eq!(lent::new(document, lent::default_settings(), &mut state), 0);
     assert_eq!(lent::read_event(document, &mut stack, &mut state, &mut answer), 0);
-    assert_eq!(state, [1, 3, 1, 3, 40, 9, 9]);
+    assert_eq!(state, [1, 3, 1, 3, 40, 0, 9, 9]);
     assert_eq!(stack, [1, 2, 9, 9, 9]);
     assert_eq!(answer, [1, 0, 0, 0, 3, 1, 2, 1, 0, 0, 0, 0, 9, 9]);
 }
 
+/// All bits above those of the nine settings.
+const ABOVE: usize = usize::MAX - 511;
+
 #[test]
-fn settings_that_are_none() {
-    let mut state = [0; lent::STATE_SLOTS];
-    assert_eq!(lent::new(b"a", usize::MAX, &mut state), 0);
-    assert_eq!(state, [0, 0, 0, 1, 255]);
+fn bits_that_stand_for_no_setting_do_not_count() {
+    for (settings, taken) in [(usize::MAX, 511), (ABOVE + 40, 40), (ABOVE + 256, 256), (ABOVE, 0)] {
+        let mut state = [9; lent::STATE_SLOTS];
+        assert_eq!(lent::new(b"a", settings, &mut state), 0);
+        assert_eq!(state, [0, 0, 0, 1, taken, 0]);
+    }
+}
+
+/// The number that a call over `a` answers, and the state after it.
+fn called(mut state: [usize; lent::STATE_SLOTS]) -> (usize, [usize; lent::STATE_SLOTS]) {
     let mut answer = [0; lent::ANSWER_SLOTS];
-    for bad in [[0, 0, 0, 1, 256], [6, 0, 0, 1, 40], [usize::MAX; 5]] {
-        let mut state = bad;
-        assert_eq!(lent::read_event(b"a", &mut [], &mut state, &mut answer), 17);
-        assert_eq!(state, bad);
+    let number = lent::read_event(b"a", &mut [], &mut state, &mut answer);
+    (number, state)
+}
+
+#[test]
+fn states_with_any_settings_are_taken_and_no_others() {
+    for settings in 0..512 {
+        assert_eq!(called([0, 0, 0, 1, settings, 0]), (0, [5, 1, 0, 1, settings, 0]));
+    }
+    for settings in [512, 513, 1023, 1024, 1 << 63, ABOVE, usize::MAX] {
+        let bad = [0, 0, 0, 1, settings, 0];
+        assert_eq!(called(bad), (17, bad));
+    }
+    for bad in [[6, 0, 0, 1, 40, 0], [usize::MAX; lent::STATE_SLOTS]] {
+        assert_eq!(called(bad), (17, bad));
     }
 }

@@ -3,7 +3,7 @@
 mod common;
 
 use common::Numbers;
-use sporebasket::{EncodingError, Error, Event, Reader};
+use sporebasket::{EncodingError, Error, Event, IllFormedError, Reader};
 use std::thread;
 
 #[test]
@@ -29,7 +29,7 @@ fn settings_change_between_calls() {
 fn end_of_file_stays() {
     let mut reader = Reader::from_str("<a>");
     assert_eq!(common::run(&mut reader).len(), 2);
-    for letters in ["-", "T", "u", "x"] {
+    for letters in ["-", "T", "u", "x", "o"] {
         common::set(reader.config_mut(), letters);
         assert_eq!(reader.read_event(), Ok(Event::Eof));
         assert_eq!((reader.buffer_position(), reader.depth()), (3, 1));
@@ -197,17 +197,29 @@ const PIECES: &[&[u8]] = &[
     b"</",
 ];
 
+/// Whether the end is told by this answer: end of file, its refusal, or one that ends the run.
+fn tells_the_end(answer: &Result<Event, Error>) -> bool {
+    match answer {
+        Ok(event) => *event == Event::Eof,
+        Err(error) => matches!(error.number(), 1..=8 | 13..=15 | 18),
+    }
+}
+
 /// What holds of every run, whatever the document and the settings.
 fn hold_to_the_theorems(document: &[u8], letters: &str, names: usize) {
     let mut reader = Reader::with_capacity(document, names);
     common::set(reader.config_mut(), letters);
     let strays = reader.config().allow_unmatched_ends;
+    let whole = reader.config().check_open_names;
     let mut open: Vec<&[u8]> = Vec::new();
     let mut end = 0;
+    let mut told = false;
     for _ in 0..document.len() + 2 {
         let before = reader.buffer_position();
         let event = reader.read_event();
         match event {
+            Ok(Event::Eof) => assert!(open.is_empty() || told || !whole),
+            Err(ref error) if error.number() == 18 => assert!(!open.is_empty() && !told && whole),
             Ok(Event::Start(tag)) => open.push(tag.name()),
             Ok(Event::End(tag)) => {
                 let name = open.pop();
@@ -224,6 +236,7 @@ fn hold_to_the_theorems(document: &[u8], letters: &str, names: usize) {
         assert!(end <= piece.start && piece.start <= piece.end && piece.end as u64 == reader.buffer_position());
         assert!(before <= reader.buffer_position());
         end = piece.end;
+        told |= tells_the_end(&event);
         if let Ok(event) = event {
             assert!(event.part().is_none_or(|part| part.as_str().is_ok()));
             if event == Event::Eof {
@@ -234,16 +247,48 @@ fn hold_to_the_theorems(document: &[u8], letters: &str, names: usize) {
     panic!("no end of file");
 }
 
+/// Reads with `check_open_names` off and on, call by call: all is the same, but where 18 comes instead of the first end of file.
+fn hold_to_the_setting_off(document: &[u8], letters: &str, names: usize) -> usize {
+    let mut off = Reader::with_capacity(document, names);
+    common::set(off.config_mut(), letters);
+    off.config_mut().check_open_names = false;
+    let mut on = off.clone();
+    on.config_mut().check_open_names = true;
+    let (mut told, mut refused) = (false, 0);
+    for _ in 0..document.len() + 4 {
+        let (wanted, said) = (off.read_event(), on.read_event());
+        if wanted == Ok(Event::Eof) && off.depth() > 0 && !told {
+            let latest = off.open_names().next_back().unwrap();
+            let name = String::from_utf8(latest.to_vec()).unwrap();
+            assert_eq!(said, Err(IllFormedError::UnclosedElements(name).into()));
+            assert_eq!(on.error_position() as usize, common::place(document, latest).start);
+            refused += 1;
+        } else {
+            assert_eq!(said, wanted);
+            assert!(refused > 0 || on.error_position() == off.error_position());
+        }
+        assert_eq!(common::state(&on), common::state(&off));
+        assert_eq!((on.piece(), on.expected()), (off.piece(), off.expected()));
+        assert_eq!(on.found(), off.found());
+        told |= tells_the_end(&wanted);
+    }
+    assert!(refused <= 1);
+    refused
+}
+
 #[test]
 fn any_document_with_any_settings() {
     let mut numbers = Numbers(1);
+    let mut refused = 0;
     for turn in 0..20_000 {
         let count = numbers.below(20);
         let document: Vec<u8> = (0..count)
             .flat_map(|_| PIECES[numbers.below(PIECES.len())].iter().copied())
             .collect();
-        let letters: String = "aucnxmse".chars().filter(|_| numbers.below(3) == 0).collect();
+        let letters: String = "aucnxmseo".chars().filter(|_| numbers.below(3) == 0).collect();
         let names = if turn % 4 == 0 { numbers.below(3) } else { 64 };
         hold_to_the_theorems(&document, &letters, names);
+        refused += hold_to_the_setting_off(&document, &letters, names);
     }
+    assert!(refused > 1_000 && refused < 19_000, "{refused}");
 }

@@ -1,5 +1,5 @@
-//! The reader's cases of the repository (`crates/cases/stdout`), run through this package: whole documents by `Reader`, single calls from any
-//! state and contents by `lent`.
+//! The reader's cases of the repository (`crates/cases/stdout`), run through this package: whole documents by `Reader` and by `lent`, single calls
+//! from any state and contents by `lent`.
 
 mod common;
 
@@ -9,7 +9,7 @@ use std::fs;
 
 const RECORDED: &str = concat!(env!("CARGO_MANIFEST_DIR"), "/../../crates/cases/stdout");
 
-const LETTERS: [char; 8] = ['a', 'u', 'c', 'n', 'x', 'm', 's', 'e'];
+const LETTERS: [char; 9] = ['a', 'u', 'c', 'n', 'x', 'm', 's', 'e', 'o'];
 
 /// The cases of this word: the words of the line, and the lines below it.
 fn cases(word: &str) -> Vec<(String, Vec<String>)> {
@@ -67,8 +67,14 @@ fn letters(settings: usize) -> String {
     let on = |i: &usize| turned >> i & 1 == 1;
     match turned {
         0 => "-".into(),
-        _ => (0..8).filter(on).map(|i| LETTERS[i]).collect(),
+        _ => (0..LETTERS.len()).filter(on).map(|i| LETTERS[i]).collect(),
     }
+}
+
+/// Where a state stands: the phase, with `!` before it where the mark is on, the position and the depth.
+fn place(state: &[usize]) -> String {
+    let mark = if state[5] == 0 { "" } else { "!" };
+    format!("{mark}{} {} {}", PHASES[state[0]], state[1], state[2])
 }
 
 #[test]
@@ -81,7 +87,28 @@ fn whole_documents() {
         let mut said = common::run(&mut reader);
         said.extend(common::run(&mut reader));
         answers.pop(); // the counts
-        assert_eq!(said, answers, "run {line}");
+        let unmarked: Vec<String> = answers.iter().map(|answer| answer.replace(" | !", " | ")).collect();
+        assert_eq!(said, unmarked, "run {line}");
+    }
+}
+
+#[test]
+fn whole_documents_with_all_memory_lent() {
+    for (line, mut answers) in cases("run") {
+        let words: Vec<&str> = line.splitn(3, ' ').collect();
+        let document = unescaped(words[2]);
+        let mut stack = vec![0; number(words[1])];
+        let (mut state, mut answer) = ([0; lent::STATE_SLOTS], [0; lent::ANSWER_SLOTS]);
+        assert_eq!(lent::new(&document, settings(words[0]), &mut state), 0);
+        answers.pop(); // the counts
+        for wanted in answers {
+            lent::read_event(&document, &mut stack, &mut state, &mut answer);
+            let mut said = format!("{} | {}", told(&answer), place(&state));
+            for name in stack.chunks(lent::NAME_SLOTS).take(state[2]) {
+                said += &format!(" {}..{}", name[0], name[1]);
+            }
+            assert_eq!(said, wanted, "run {line}");
+        }
     }
 }
 
@@ -90,13 +117,15 @@ fn single_calls() {
     for (line, answers) in cases("state") {
         let words: Vec<&str> = line.splitn(8, ' ').collect();
         let document = unescaped(words[7]);
-        let phase = PHASES.iter().position(|phase| *phase == words[1]).expect("a phase");
+        let unmarked = words[1].trim_start_matches('!');
+        let phase = PHASES.iter().position(|phase| *phase == unmarked).expect("a phase");
         let mut state = [
             phase,
             number(words[2]),
             number(words[3]),
             number(words[4]),
             settings(words[0]),
+            usize::from(unmarked != words[1]),
         ];
         let mut stack = vec![0; number(words[5])];
         if words[6] != "-" {
@@ -107,9 +136,8 @@ fn single_calls() {
         let mut answer = [0; lent::ANSWER_SLOTS];
         let refusal = lent::read_event(&document, &mut stack, &mut state, &mut answer);
         assert_eq!(refusal, answer[1], "state {line}");
-        let [phase, position, depth, length, settings] = state;
-        let mut said = format!("{} | {} {}", told(&answer), letters(settings), PHASES[phase]);
-        said += &format!(" {position} {depth} {length} |");
+        let mut said = format!("{} | {} {}", told(&answer), letters(state[4]), place(&state));
+        said += &format!(" {} |", state[3]);
         for (slot, value) in stack.iter().enumerate().filter(|(_, value)| **value != 0) {
             said += &format!(" {slot}={value}");
         }

@@ -158,9 +158,9 @@ module _ {M : Type 1} (𝓤 : URA M) (H : Heap 𝓤) (A : Atoms 𝓤) (W : Given
         land ! (from ! (stop !)) (init ! 14 refl (LL.lawful S.the-type S′.the-laws 𝓤 H A W .typed r _ is .0)) $
         rewrite ! 14 (λ (u : Val). ‵ (fat fullShare S′.mir l₄ 0 u)) (ap only (LL.tells S.the-type S′.the-laws r _ is)) refl $
         -- [the result's; the tokens; the last list; the document's; the reader's cell; the open borrow; obs; auth; _7; …; _6; …; _5; …; _4; …; _3; …; _2; …; _1; …; room for _0; …]
-        -- a step's fields: the reader at byte 0, the answer at byte 40
+        -- a step's fields: the reader at byte 0, the answer at byte 48
         assigns ! (of-opd ! (load ! (from ! (fld ! {τ = T′.mir} {d = 0} refl (stop !))) (look-in ! 14 (sub ! 0 {τ = T′.mir} {d = 0} refl (whole !))))) (from ! (hop ! (look ! 20 refl) (stop !))) (store-raw ! 4 refl (LL.lawful T.the-type T′.the-laws 𝓤 H A W .typed (r .reader) _ (reader-is r _ is) .0)) $
-        assigns ! (of-opd ! (load ! (from ! (fld ! {τ = N′.mir} {d = 40} refl (stop !))) (look-in ! 14 (sub ! 1 {τ = N′.mir} {d = 40} refl (whole !))))) (from ! (stop !)) (init ! 22 refl (EL.lawful N.the-type N′.the-laws 𝓤 H A W tt .typed (r .answer) _ (answer-is r _ is) .0)) $
+        assigns ! (of-opd ! (load ! (from ! (fld ! {τ = N′.mir} {d = 48} refl (stop !))) (look-in ! 14 (sub ! 1 {τ = N′.mir} {d = 48} refl (whole !))))) (from ! (stop !)) (init ! 22 refl (EL.lawful N.the-type N′.the-laws 𝓤 H A W tt .typed (r .answer) _ (answer-is r _ is) .0)) $
         -- the borrow is closed at the reader that was returned
         owned ! R (Is R) (LL.makes T.the-type T′.the-plain 𝓤 H A) (r .reader) _ (reader-is r _ is) $
         move ! (5 ∷ 0 ∷ 6 ∷ 7 ∷ 8 ∷ []) $ closes ! tt R (r .reader) (vals (r .reader)) b o $

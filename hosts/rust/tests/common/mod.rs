@@ -83,7 +83,7 @@ pub fn told(answer: &[usize]) -> String {
 }
 
 /// Where a part of the document stands in it.
-fn place(document: &[u8], part: &[u8]) -> Range<usize> {
+pub fn place(document: &[u8], part: &[u8]) -> Range<usize> {
     let from = part.as_ptr() as usize - document.as_ptr() as usize;
     from..from + part.len()
 }
@@ -133,6 +133,7 @@ pub fn set(config: &mut Config, letters: &str) {
             'm' => config.trim_markup_names_in_closing_tags ^= true,
             's' => config.trim_text_start ^= true,
             'e' => config.trim_text_end ^= true,
+            'o' => config.check_open_names ^= true,
             'T' | 't' => config.trim_text(letter == 'T'),
             'K' | 'k' => config.enable_all_checks(letter == 'K'),
             other => panic!("no setting {other}"),
@@ -151,6 +152,7 @@ pub fn settings(config: &Config) -> usize {
         config.trim_markup_names_in_closing_tags,
         config.trim_text_start,
         config.trim_text_end,
+        config.check_open_names,
     ];
     flags.iter().enumerate().map(|(i, on)| usize::from(*on) << i).sum()
 }

@@ -15,4 +15,5 @@ config-spec =
     (λ c κs. search numbers)
     (λ c κs. search numbers)
     (λ c κs. search numbers)
+    (λ c κs. search numbers)
     (λ c. search numbers))

@@ -33,4 +33,5 @@ load-spec =
     (λ c. search numbers)
     (λ c. search numbers)
     (λ c κs. search numbers)
+    (λ c. search numbers)
     (λ c. search numbers))

@@ -8,6 +8,7 @@ move-on-spec =
     tie.close
     (tie.spec
     (λ c κs. search numbers)
+    (λ c κs. search numbers)
     (λ c. search numbers)
     (λ c κs. search numbers)
     (λ c. search numbers)

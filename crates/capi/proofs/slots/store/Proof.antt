@@ -9,6 +9,7 @@ store-spec =
     (tie.spec
     (λ c κs. search numbers)
     (λ c κs. search numbers)
+    (λ c κs. search numbers)
     (λ c. search numbers)
     (λ c κs. search numbers)
     (λ c. search numbers)

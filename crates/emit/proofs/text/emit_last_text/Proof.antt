@@ -7,7 +7,7 @@ use Rattle.emit.proofs.text.emit_last_text.Tie as tie
 
 returns : tie.Need-returns
 unfolding emitLastText
-returns c = simp (eq-eqb _ _ (c .before .if1 .taken), ← c .before .before .size .ensures, ← c .before .before .before .content .ensures) (c .eof .ensures)
+returns c = simp (eq-eqb _ _ (c .before .if1 .taken), ← c .before .before .size .ensures, ← c .before .before .before .content .ensures) (c .end .ensures)
 
 returns-2 : tie.Need-returns-2
 unfolding emitLastText

@@ -6,11 +6,12 @@ use Rattle.state.proofs.run.Reader.stop.Tie as tie
 
 returns : tie.Need-returns
 unfolding stopped
-returns c = c .refuse .ensures
+returns c = simp (← c .before .marked .ensures) (c .refuse .ensures)
 
 pub stop-spec : {M : Type 1} → statement M
 stop-spec =
     tie.close
     (tie.spec
+    (λ c κs. search needs)
     (λ c κs. search needs)
     returns)

@@ -1,0 +1,65 @@
+-- When names are still open: the laws of the test that 18 goes by. Assumes nothing.
+use Prim.Native.Nat.{ℕ, _≤_, _<_}
+use mathlib.Core.Path.{_≡_, refl, sym, ap, _∙_}
+use mathlib.Core.Bool.{true, false}
+use native.Mathlib.Omega.{arith}
+use lib.Dec.{ltb}
+use borrow.Author.Tests.{lt-ltb, ltb-true, le-ltb}
+use Rattle.ground.specs.Choose.{pick}
+use Rattle.ground.proofs.Choices.{pick-cases, clash, both, must-fail, not-true}
+use Rattle.state.specs.declared.run.Reader.{Reader}
+use Rattle.state.specs.Make.{marked, stillOpen}
+
+pub record StillOpen (r : Reader) : Type 0 where
+  pub some : 0 < r .depth .0
+  pub asked : r .settings .«check_open_names» ≡ true
+  pub untold : r .mark ≡ false
+
+pub still-open : (r : Reader) → stillOpen r ≡ true → StillOpen r
+unfolding stillOpen
+still-open r e =
+    let a = both _ _ e in
+    let b = both _ _ (a .1) in
+    record { some = ltb-true 0 (r .depth .0) (a .0); asked = b .0; untold = not-true (r .mark) (both _ _ (b .1) .0) }
+
+pub open-still : (r : Reader) → StillOpen r → stillOpen r ≡ true
+unfolding stillOpen
+open-still r s = rw (lt-ltb 0 (r .depth .0) (s .some), s .asked, s .untold)
+
+-- they are not where there are none, where it is not asked, or where the end was told
+pub none-open : (r : Reader) → r .depth .0 ≡ 0 → stillOpen r ≡ false
+none-open r z = must-fail (stillOpen r) (λ e. omega (arith, still-open r e .some))
+
+pub not-asked : (r : Reader) → r .settings .«check_open_names» ≡ false → stillOpen r ≡ false
+not-asked r off = must-fail (stillOpen r) (λ e. clash _ (still-open r e .asked) off)
+
+pub told-before : (r : Reader) → r .mark ≡ true → stillOpen r ≡ false
+told-before r on = must-fail (stillOpen r) (λ e. clash _ on (still-open r e .untold))
+
+-- ---- how many calls 18 takes
+
+-- 1 where it is to come before Eof
+abbrev pub owed : Reader → ℕ
+owed r = pick (stillOpen r) 1 0
+
+pub owed-few : (r : Reader) → owed r ≤ 1
+owed-few r = pick-cases (λ (n : ℕ). n ≤ 1) (stillOpen r) 1 0 (λ _. omega arith) (λ _. omega arith)
+
+pub owed-nothing : (r : Reader) → stillOpen r ≡ false → owed r ≡ 0
+owed-nothing r e = rw e refl
+
+pub nothing-owed : (r : Reader) → owed r ≤ 0 → stillOpen r ≡ false
+nothing-owed r h = must-fail (stillOpen r) (λ e. let one : owed r ≡ 1 = rw e refl in omega arith)
+
+pub owed-marked : (r : Reader) → owed (marked r) ≡ 0
+unfolding marked
+owed-marked r = owed-nothing _ (told-before _ refl)
+
+-- with no more names open it is to come no sooner
+pub owed-less : (r b : Reader) → b .settings ≡ r .settings → b .mark ≡ r .mark → b .depth .0 ≤ r .depth .0 → owed b ≤ owed r
+owed-less r b c m d =
+    pick-cases (λ (n : ℕ). n ≤ owed r) (stillOpen b) 1 0
+    (λ e. let s = still-open b e in
+    let on = open-still r (record { some = omega (arith, s .some); asked = rw c at (s .asked); untold = sym m ∙ s .untold }) in
+    rw on (omega arith))
+    (λ _. omega arith)
