@@ -181,8 +181,8 @@ impl Reader {
     pub fn stop(self, error: Error, place: Position, piece: Span) -> Step
         ensures { λ r. ⌜ r ≡ stopped self error place piece ⌝ }
     {
-        let ended = self.marked();
-        ended.refuse(error, place, piece, Phase::Done)
+        let stopped = self.marked();
+        stopped.refuse(error, place, piece, Phase::Done)
     }
 
     // A refusal, and the phase that comes next.

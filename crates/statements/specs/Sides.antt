@@ -3,7 +3,7 @@ use Prim.Native.Nat.{ℕ, zero, suc, _+_}
 use mathlib.Core.Bool.{Bool, true, false, not}
 use mathlib.Core.List.{List, [], _∷_}
 use lib.ListN.{length, take, replicate}
-use lib.Dec.{leb}
+use lib.Dec.{eqb, leb}
 use Rattle.ground.specs.Choose.{pick}
 use Rattle.white.specs.White.{nameLen}
 use Rattle.state.specs.declared.place.Span.{Span}
@@ -78,6 +78,8 @@ module _ (x : Example) (w : World) where
             ∷ pick (isEof answer) (isEof (said doc after)) true
             ∷ pick (isUnclosed answer) (isEof (said doc after)) true
             ∷ pick (isUnclosed answer) (oneIs turnsOn (w .answers)) false
+            ∷ pick (isUnclosed answer) (eqb (length (opened w)) 0) false
+            ∷ pick (isUnclosed answer) (x .settings .«check_open_names») true
             ∷ w .reader .mark
             ∷ [];
       }
@@ -95,7 +97,7 @@ module _ (x : Example) (w : World) where
         whole = [];
         latest = pick (isUnclosed answer) (newest w .from) 0;
         counts = pick (x .settings .«allow_unmatched_ends») 0 (count isEnd (w .answers) + count isMismatch (w .answers) + length (opened w));
-        tests = true ∷ false ∷ true ∷ false ∷ true ∷ true ∷ true ∷ false ∷ oneIs turnsOn (w .answers) ∷ [];
+        tests = true ∷ false ∷ true ∷ false ∷ true ∷ true ∷ true ∷ false ∷ false ∷ true ∷ oneIs turnsOn (w .answers) ∷ [];
       }
 
 module _ (side : Example → World → Side) (x : Example) where
