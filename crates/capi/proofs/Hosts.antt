@@ -24,7 +24,7 @@ use Rattle.demands.proofs.Unclosed.{a-page-that-ends-with-eof-and-no-refusal-is
 use Rattle.capi.specs.Numbers.{configOf, valuesNumbers, answerSlots}
 use Rattle.capi.specs.Slots.{put}
 use Rattle.capi.specs.Calls.{madeNumber, Called}
-use Rattle.capi.specs.Hosts.{Heard, Host, HostCalls, none, more, numbersHeard, numbersTold, heardKind, heardNumber, heardEnding, namesOpen, Holds, Follows}
+use Rattle.capi.specs.Hosts.{Heard, Host, HostCalls, none, more, numbersHeard, numbersTold, heardKind, heardNumber, heardEnding, namesOpen, Follows}
 use Rattle.capi.proofs.Rounds.{holds}
 use Rattle.capi.proofs.Runs.{a-host's-reader-is-a-run's, a-host's-call-is-the-run's}
 

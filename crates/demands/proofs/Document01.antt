@@ -1,12 +1,12 @@
 -- What document 02 adds to a call, and no more: with the ninth setting off every answer is that of document 01, and with it on every answer but 18, which comes
 -- exactly where document 01 has Eof and names are still open. Any document, any lent stack, any state. Assumes nothing.
 use Prim.Native.Nat.{ℕ}
-use mathlib.Core.Path.{_≡_, refl, sym, ap, _∙_, subst}
+use mathlib.Core.Path.{_≡_, refl, sym, ap, _∙_}
 use mathlib.Core.Bool.{Bool, true, false}
-use mathlib.Core.List.{List, _∷_}
+use mathlib.Core.List.{List}
 use mathlib.Core.Logic.{_↔_}
 use native.Mathlib.Omega.{arith}
-use lib.ListN.{length, drop, getD}
+use lib.ListN.{length, drop}
 use lib.Dec.{eqb, ltb}
 use borrow.Author.Tests.{eqb-true}
 use Rattle.ground.specs.Choose.{pick}
@@ -31,7 +31,7 @@ use Rattle.state.specs.Limits.{capacity}
 use Rattle.state.specs.Place.{at, depthOf, size, span, inner}
 use Rattle.state.specs.Values.{kindNumber, valuesOf}
 use Rattle.state.specs.Make.{moved, withDepth, marked, told, ended, refused, stopped, stillOpen, ending, badState}
-use Rattle.state.proofs.Open.{still-open, not-asked}
+use Rattle.state.proofs.Open.{not-asked}
 use Rattle.emit.specs.Text.{textContent, emitText, emitLastText}
 use Rattle.emit.specs.Reference.{emitRef, emitDangling}
 use Rattle.emit.specs.Bang.{commentOpener, cdataOpener, bangEvent, checkedComment, emitComment, emitCData}

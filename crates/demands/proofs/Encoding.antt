@@ -1,6 +1,6 @@
 -- Where a call refuses bytes that are not UTF-8, in the words of document 02, and which bytes are UTF-8. Assumes nothing.
 use Prim.Native.Nat.{ℕ, zero, suc, _≤_}
-use mathlib.Core.Path.{_≡_, ap, _∙_}
+use mathlib.Core.Path.{_≡_}
 use mathlib.Core.List.{List}
 use mathlib.Core.Bool.{true}
 use native.Mathlib.Omega.{arith}
@@ -10,7 +10,6 @@ use Rattle.ground.specs.Part.{part}
 use Rattle.utf8.specs.Utf8.{Octets}
 use Rattle.utf8.proofs.Places.{octets-nothing, octets-parts, ill-first, ill-wider}
 use Rattle.state.specs.declared.config.Config.{Config}
-use Rattle.state.specs.declared.answer.Kind.{Kind}
 use Rattle.state.specs.declared.answer.Answer.{Answer}
 use Rattle.state.specs.declared.run.Phase.{Phase}
 use Rattle.state.specs.declared.run.Reader.{Reader}
@@ -18,8 +17,7 @@ use Rattle.state.specs.declared.run.Step.{Step}
 use Rattle.state.specs.Limits.{longest}
 use Rattle.state.specs.Make.{fresh, badState}
 use Rattle.state.specs.Place.{span}
-use Rattle.state.specs.Values.{kindNumber, valuesOf}
-use Rattle.state.proofs.Numbers.{no-number}
+use Rattle.state.specs.Values.{valuesOf}
 use Rattle.reader.specs.Names.{bytes}
 use Rattle.reader.specs.Step.{step, FirstIll}
 use Rattle.reader.proofs.Outside.{step-turn}

@@ -1,7 +1,7 @@
 -- 18, "a document that ends with rows still open" (document 02): when it comes in a run, what it tells, and what a run without it is. Any document within the
 -- limit, any lent stack, any number of calls from a fresh reader; a theorem that speaks of the setting says so. Assumes nothing.
 use Prim.Native.Nat.{ℕ, zero, suc, _+_, _≤_, _<_}
-use mathlib.Core.Path.{_≡_, refl, sym, ap, _∙_, subst}
+use mathlib.Core.Path.{_≡_, refl, sym, ap, _∙_}
 use mathlib.Core.List.{List, [], _∷_}
 use mathlib.Core.Bool.{Bool, true, false}
 use native.Mathlib.Omega.{arith}
@@ -17,7 +17,7 @@ use Rattle.state.specs.declared.run.Reader.{Reader}
 use Rattle.state.specs.declared.run.Step.{Step}
 use Rattle.state.specs.Limits.{longest}
 use Rattle.state.specs.Values.{kindNumber, valuesOf, turnsOn}
-use Rattle.state.specs.Make.{fresh, marked, moved, ended, told, badState, stillOpen}
+use Rattle.state.specs.Make.{fresh, told, badState, stillOpen}
 use Rattle.state.proofs.Numbers.{no-number, no-kind}
 use Rattle.state.proofs.Open.{StillOpen, still-open, open-still}
 use Rattle.reader.specs.Step.{step}

@@ -39,7 +39,7 @@ use Rattle.state.specs.Limits.{capacity}
 use Rattle.state.specs.Values.{kindNumber, numberedOf, valuesOf, endsRun, turnsOn}
 use Rattle.state.specs.Make.{event, moved, withDepth, marked, told, ended, refused, stopped, stillOpen, ending}
 use Rattle.state.proofs.Numbers.{no-number}
-use Rattle.state.proofs.Open.{owed, owed-few, owed-nothing, owed-marked, owed-less}
+use Rattle.state.proofs.Open.{owed, owed-few, owed-marked, owed-less}
 use Rattle.state.proofs.Spans.{inner-lies, fits}
 use Rattle.emit.specs.Text.{textContent, emitText, emitLastText}
 use Rattle.emit.specs.Reference.{emitRef, emitDangling}

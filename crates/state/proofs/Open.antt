@@ -1,10 +1,9 @@
 -- When names are still open: the laws of the test that 18 goes by. Assumes nothing.
 use Prim.Native.Nat.{ℕ, _≤_, _<_}
-use mathlib.Core.Path.{_≡_, refl, sym, ap, _∙_}
+use mathlib.Core.Path.{_≡_, refl, sym, _∙_}
 use mathlib.Core.Bool.{true, false}
 use native.Mathlib.Omega.{arith}
-use lib.Dec.{ltb}
-use borrow.Author.Tests.{lt-ltb, ltb-true, le-ltb}
+use borrow.Author.Tests.{lt-ltb, ltb-true}
 use Rattle.ground.specs.Choose.{pick}
 use Rattle.ground.proofs.Choices.{pick-cases, clash, both, must-fail, not-true}
 use Rattle.state.specs.declared.run.Reader.{Reader}
