@@ -127,15 +127,18 @@ module _ (doc stack : List ℕ) (settings : ℕ) {n : ℕ} {h : Host} (calls : H
         as-many-as-the-depth doc stack (configOf settings) short n,
       )
 
-  -- THEOREM: open names checked: a host that heard Eof, and neither 18 nor a refusal that ended the run, heard a whole page: no name is open, and Starts = Ends + mismatches
-  pub a-host's-page-that-ends-with-eof-and-no-refusal-is-whole : configOf settings .«check_open_names» ≡ true → configOf settings .«allow_unmatched_ends» ≡ false
+  -- THEOREM: open names checked: a host that heard Eof, and neither 18 nor a refusal that ended the run, heard a whole page: no name is open, and, where unmatched
+  -- ends are refused, Starts = Ends + mismatches
+  pub a-host's-page-that-ends-with-eof-and-no-refusal-is-whole : configOf settings .«check_open_names» ≡ true
       → oneIs (heardKind Kind.Eof) (h .heard) ≡ true → oneIs (heardNumber 18) (h .heard) ≡ false → oneIs heardEnding (h .heard) ≡ false
-      → (namesOpen h ≡ 0) × (count (heardKind Kind.Start) (h .heard) ≡ count (heardKind Kind.End) (h .heard) + count (heardNumber 10) (h .heard))
-  a-host's-page-that-ends-with-eof-and-no-refusal-is-whole on off eof unclosed ending =
+      → (namesOpen h ≡ 0)
+      × (configOf settings .«allow_unmatched_ends» ≡ false
+      → count (heardKind Kind.Start) (h .heard) ≡ count (heardKind Kind.End) (h .heard) + count (heardNumber 10) (h .heard))
+  a-host's-page-that-ends-with-eof-and-no-refusal-is-whole on eof unclosed ending =
       let whole =
-      a-page-that-ends-with-eof-and-no-refusal-is-whole doc stack (configOf settings) short on off n
+      a-page-that-ends-with-eof-and-no-refusal-is-whole doc stack (configOf settings) short on n
       (sym (heard-kind Kind.Eof .2) ∙ eof)
       (sym (same-told (heardNumber 18) isUnclosed (λ x a e. same-number x a e 18) (h .heard) (w .answers) (follows .heard) .2) ∙ unclosed)
       (sym (same-told heardEnding isEnding same-ending (h .heard) (w .answers) (follows .heard) .2) ∙ ending) in
       let none : namesOpen h ≡ 0 = open-names ∙ sym (as-many-as-the-depth doc stack (configOf settings) short n) ∙ ap length (whole .0) in
-      (none, omega (arith, none, a-host's-starts-are-ends-mismatches-and-open off))
+      (none, λ off. omega (arith, none, a-host's-starts-are-ends-mismatches-and-open off))

@@ -64,7 +64,7 @@ configOf n =
 abbrev pub markNumber : ℕ → Bool → ℕ
 markNumber was on = pick (eqb was 0) (pick on 1 0) was
 
--- a reader's state, where the mark's slot held `was`, and how many slots that are
+-- a reader's state, written where the mark's slot held `was`, and how many slots that are; with 0 for `was` the mark is 1 or 0
 unfoldable pub stateNumbers : ℕ → Reader → List ℕ
 stateNumbers was r =
     phaseNumber (r .phase) ∷ r .position .0 ∷ r .depth .0 ∷ r .length ∷ settingsNumber (r .settings) ∷ markNumber was (r .mark) ∷ []
@@ -72,7 +72,7 @@ stateNumbers was r =
 abbrev pub stateSlots : ℕ
 stateSlots = 6
 
--- the mark's slot, and what it holds
+-- what the mark's slot holds
 abbrev pub markSlot : List ℕ → ℕ
 markSlot xs = getD xs 5 0
 

@@ -101,7 +101,7 @@ pub fn put(slots: &mut [usize], numbers: &[usize])
     }
 }
 
-// Writes the numbers of a reader whose mark's slot was 0.
+// Writes a reader's numbers, the mark as 1 or 0.
 pub fn store(state: &mut [usize], reader: Reader)
     ensures { λ _. ⌜ now (state .exit) ≡ putIn (now (state .entry)) (stateNumbers 0 reader) ⌝ }
 {

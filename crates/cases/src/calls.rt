@@ -34,6 +34,9 @@ ghost use Rattle.state.specs.Limits.{most, slots};
 // The slots that there are to lend: a few more than the most names take.
 const ROOM: usize = SLOTS * MOST + 10;
 
+// How many phases there are.
+const PHASES: usize = 6;
+
 // Writes the answers below the line, if it has one of the forms.
 pub fn answer(text: &[u8]) {
     let end = word(text, 0);
@@ -113,8 +116,8 @@ fn state_case(text: &[u8], from: usize) {
     let end = word(text, from);
     let settings = settings(ground::part(text, from, end));
     let next = word(text, end);
-    let mark = ground::starts_with(text, end, b" !");
-    let phase = phase(ground::part(text, end, next));
+    let place = place(ground::part(text, end, next));
+    let phase = phase(place % PHASES);
     let position = number(text, next);
     let depth = number(text, position.next);
     let length = number(text, depth.next);
@@ -125,7 +128,7 @@ fn state_case(text: &[u8], from: usize) {
         depth: Depth(depth.value),
         length: length.value,
         settings,
-        mark,
+        mark: PHASES <= place,
     };
     let mut stack = filled(text, slots.next);
     let lent = lent(slots.value, &stack);
@@ -143,14 +146,16 @@ fn filled(text: &[u8], from: usize) -> [usize; ROOM]
     stack
 }
 
-// The phase by its word, which stands after a space, or after a space and a `!`.
-fn phase(name: &[u8]) -> Phase {
-    match number_of(
+// The number of a phase's word, which stands after a space; where the mark is on, more by as many as there are.
+fn place(name: &[u8]) -> usize {
+    number_of(
         name,
-        b" init; !init; text; !text; markup; !markup; ref; !ref; empty; !empty",
+        b" init; text; markup; ref; empty; done; !init; !text; !markup; !ref; !empty; !done",
     )
-        / 2
-    {
+}
+
+fn phase(number: usize) -> Phase {
+    match number {
         0 => Phase::Init,
         1 => Phase::InsideText,
         2 => Phase::InsideMarkup,

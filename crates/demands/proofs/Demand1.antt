@@ -21,9 +21,9 @@ use Rattle.state.specs.declared.run.Made.{Made}
 use Rattle.state.specs.Limits.{longest, capacity}
 use Rattle.state.specs.Place.{depthOf, span}
 use Rattle.state.specs.Values.{kindNumber, valuesOf}
-use Rattle.state.specs.Make.{fresh, made, moved, marked, told, ended, refused, stopped, stillOpen, ending, badState}
+use Rattle.state.specs.Make.{fresh, made, moved, marked, told, ended, refused, stopped, refusesEnd, ending, badState}
 use Rattle.state.proofs.Numbers.{answer-range}
-use Rattle.state.proofs.Open.{nothing-owed, told-before}
+use Rattle.state.proofs.Refused.{nothing-owed, told-before}
 use Rattle.reader.specs.Names.{latest, written}
 use Rattle.reader.specs.Sound.{sound}
 use Rattle.reader.specs.Step.{stepIn, stepPhase, step}
@@ -81,7 +81,7 @@ module _ (doc stack : List ℕ) (r : Reader) where
     end-step : step doc stack r ≡ ending r (latest stack (r .depth .0)) (span (r .position .0) (r .position .0))
     end-step = phase-step e ∙ ap (stepIn doc r (latest stack (r .depth .0)) (depthOf (capacity (length stack)))) done
 
-    eof-step : stillOpen r ≡ false → step doc stack r ≡ ended r (span (r .position .0) (r .position .0))
+    eof-step : refusesEnd r ≡ false → step doc stack r ≡ ended r (span (r .position .0) (r .position .0))
     unfolding ending
     eof-step none = end-step ∙ rw none
 
@@ -92,7 +92,7 @@ Marked stack r s = isEof (s .answer) ≡ true → (s .reader ≡ marked r) × (w
 end-marks : (stack : List ℕ) (r : Reader) (last : Span) → r .phase ≡ Phase.Done → Marked stack r (ending r last (span (r .position .0) (r .position .0)))
 unfolding ending stopped refused ended told moved marked written
 end-marks stack r last done =
-    pick-cases (Marked stack r) (stillOpen r) _ _
+    pick-cases (Marked stack r) (refusesEnd r) _ _
     (λ _ e. clash false e refl)
     (λ _ e. (ap (λ (p : Phase). record { phase = p; position = r .position; depth = r .depth; length = r .length; settings = r .settings; mark = true }) (sym done), refl))
 
@@ -110,7 +110,7 @@ Over s = (s .reader .phase ≡ Phase.Done) × (valuesOf (s .answer) .number ≡ 
 
 end-says : (r : Reader) (last piece : Span) → Over (ending r last piece)
 unfolding ending stopped refused ended told moved
-end-says r last piece = pick-cases Over (stillOpen r) _ _ (λ _. (refl, λ n. omega arith)) (λ _. (refl, λ n. omega arith))
+end-says r last piece = pick-cases Over (refusesEnd r) _ _ (λ _. (refl, λ n. omega arith)) (λ _. (refl, λ n. omega arith))
 
 -- ---- a run
 
@@ -163,7 +163,7 @@ module _ (doc stack : List ℕ) (c : Config) (short : length doc ≤ longest) wh
   -- ---- the end
 
   due-falls : (n : ℕ) → due doc (after n .reader) ≤ length doc + 1 - n
-  unfolding run call fresh stillOpen
+  unfolding run call fresh refusesEnd
   due-falls zero = omega arith
   due-falls (suc n) = omega (arith, turn n .falls, due-falls n)
 
@@ -180,7 +180,7 @@ module _ (doc stack : List ℕ) (c : Config) (short : length doc ≤ longest) wh
   done-after-length-and-one =
       rank-done (after (length doc + 1) .reader .position .0) (after (length doc + 1) .reader .phase) (omega (arith, due-falls (length doc + 1)))
 
-  nothing-open-after-length-and-one : stillOpen (after (length doc + 1) .reader) ≡ false
+  nothing-open-after-length-and-one : refusesEnd (after (length doc + 1) .reader) ≡ false
   nothing-open-after-length-and-one = nothing-owed (after (length doc + 1) .reader) (omega (arith, due-falls (length doc + 1)))
 
   -- a reader that is done, and whose mark is on, stays as it is
@@ -195,7 +195,7 @@ module _ (doc stack : List ℕ) (c : Config) (short : length doc ≤ longest) wh
     unfolding run call
     done-stays = subst Over (sym (end-step doc (after n .stack) (after n .reader) (every-state-is-sound n) done)) (end-says (after n .reader) _ _)
 
-    module _ (none : stillOpen (after n .reader) ≡ false) where
+    module _ (none : refusesEnd (after n .reader) ≡ false) where
       ends : step doc (after n .stack) (after n .reader) ≡ ended (after n .reader) (span (after n .reader .position .0) (after n .reader .position .0))
       ends = eof-step doc (after n .stack) (after n .reader) (every-state-is-sound n) done none
 

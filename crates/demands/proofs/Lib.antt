@@ -2,7 +2,7 @@ pub mod Clauses
 pub mod Comments
 pub mod Demand1
 pub mod Demand3
-pub mod Document01
+pub mod Eight
 pub mod Encoding
 pub mod Growing
 pub mod Held

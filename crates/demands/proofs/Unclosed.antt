@@ -17,9 +17,9 @@ use Rattle.state.specs.declared.run.Reader.{Reader}
 use Rattle.state.specs.declared.run.Step.{Step}
 use Rattle.state.specs.Limits.{longest}
 use Rattle.state.specs.Values.{kindNumber, valuesOf, turnsOn}
-use Rattle.state.specs.Make.{fresh, told, badState, stillOpen}
+use Rattle.state.specs.Make.{fresh, told, badState, refusesEnd}
 use Rattle.state.proofs.Numbers.{no-number, no-kind}
-use Rattle.state.proofs.Open.{StillOpen, still-open, open-still}
+use Rattle.state.proofs.Refused.{RefusesEnd, refuses-true, true-refuses}
 use Rattle.reader.specs.Step.{step}
 use Rattle.reader.proofs.Outside.{step-turn}
 use Rattle.reader.proofs.Rooms.{any-state}
@@ -33,15 +33,34 @@ use Rattle.demands.proofs.Demand3.{no-other-takes-a-name, only-a-start-
 
 -- ---- any state
 
--- THEOREM: no call turns the mark off
-pub no-call-turns-the-mark-off : (doc stack : List ℕ) (r : Reader) → r .mark ≡ true → step doc stack r .reader .mark ≡ true
+-- THEOREM: the mark is "turned on by Eof (setting on or off), by 18 and by those refusals, kept by every other answer"
+pub the-mark-after-a-call : (doc stack : List ℕ) (r : Reader) → step doc stack r .reader .mark ≡ pick (turnsOn (step doc stack r .answer)) true (r .mark)
 unfolding badState
+the-mark-after-a-call doc stack r =
+    any-state doc stack r (λ (s : Step). s .reader .mark ≡ pick (turnsOn (s .answer)) true (r .mark)) (λ e. step-turn doc stack r e .finish .mark) refl
+
+-- THEOREM: so no call turns it off
+pub no-call-turns-the-mark-off : (doc stack : List ℕ) (r : Reader) → r .mark ≡ true → step doc stack r .reader .mark ≡ true
 no-call-turns-the-mark-off doc stack r on =
-    any-state doc stack r (λ (s : Step). s .reader .mark ≡ true)
-    (λ e. step-turn doc stack r e .finish .mark ∙ ap (λ (b : Bool). pick (turnsOn (step doc stack r .answer)) true b) on ∙ pick-same (turnsOn (step doc stack r .answer)) true)
-    on
+    let told = turnsOn (step doc stack r .answer) in the-mark-after-a-call doc stack r ∙ ap (λ (b : Bool). pick told true b) on ∙ pick-same told true
 
 -- ---- a run
+
+-- of two answers neither is such a one
+or-right : (t u : Bool) → pick t true u ≡ false → u ≡ false
+or-right true u e = clash true refl e
+or-right false u e = e
+
+-- an answer that does not turn the mark on is no Eof
+none-was-eof : (before : List Answer) → oneIs turnsOn before ≡ false → oneIs isEof before ≡ false
+unfolding oneIs
+none-was-eof [] e = refl
+none-was-eof (a ∷ before) e = by (isEof a) _ (none-was-eof before) e
+  where
+    by : (eof other : Bool) → (oneIs turnsOn before ≡ false → oneIs isEof before ≡ false) → pick (pick eof true other) true (oneIs turnsOn before) ≡ false
+        → pick eof true (oneIs isEof before) ≡ false
+    by true other further e = e
+    by false other further e = further (or-right other _ e)
 
 module _ (doc stack : List ℕ) (c : Config) (short : length doc ≤ longest) where
   abbrev after : ℕ → World
@@ -59,14 +78,14 @@ module _ (doc stack : List ℕ) (c : Config) (short : length doc ≤ longest) wh
   unfolding run call fresh oneIs
   the-mark-is-what-the-answers-say zero = refl
   the-mark-is-what-the-answers-say (suc n) =
-      turn doc stack c short n .finish .mark ∙ ap (pick (turnsOn (answer n)) true) (the-mark-is-what-the-answers-say n)
+      the-mark-after-a-call doc (after n .stack) (after n .reader) ∙ ap (pick (turnsOn (answer n)) true) (the-mark-is-what-the-answers-say n)
 
   module _ (n : ℕ) (eighteen : isUnclosed (answer n) ≡ true) where
     number : valuesOf (answer n) .number ≡ 18
     number = eqb-true (valuesOf (answer n) .number) 18 eighteen
 
-    open-then : StillOpen (after n .reader)
-    open-then = still-open (after n .reader) (turn doc stack c short n .finish .unclosed number .1)
+    open-then : RefusesEnd (after n .reader)
+    open-then = refuses-true (after n .reader) (turn doc stack c short n .finish .unclosed number .1)
 
     -- THEOREM: 18 never comes after an Eof, another 18 or a refusal that ended the run
     pub eighteen-comes-after-none-of-these : oneIs turnsOn (answers n) ≡ false
@@ -100,17 +119,23 @@ module _ (doc stack : List ℕ) (c : Config) (short : length doc ≤ longest) wh
     marks-then : after (suc n) .reader .mark ≡ true
     unfolding run call
     marks-then =
-        turn doc stack c short n .finish .mark
+        the-mark-after-a-call doc (after n .stack) (after n .reader)
         ∙ pick-cases (λ (b : Bool). pick b true (after n .reader .mark) ≡ true) (isEof (answer n)) _ _ (λ _. refl) (λ _. rw eighteen refl)
 
     done-then : after (suc n) .reader .phase ≡ Phase.Done
     unfolding run call
     done-then = turn doc stack c short n .finish .unclosed number .0
 
-    -- THEOREM: the next answer is Eof, the first one
-    pub eof-comes-right-after-eighteen : isEof (answer (suc n)) ≡ true
+    no-eof-so-far : oneIs isEof (answers (suc n)) ≡ false
+    unfolding run call oneIs
+    no-eof-so-far =
+        rw (ne-eqb (valuesOf (answer n) .kind) (kindNumber Kind.Eof) (λ e. omega (arith, number, no-kind (answer n) (omega (arith, number)))))
+        (none-was-eof (answers n) eighteen-comes-after-none-of-these)
+
+    -- THEOREM: the next answer is Eof, and it is the first one
+    pub eof-comes-right-after-eighteen : (isEof (answer (suc n)) ≡ true) × (oneIs isEof (answers (suc n)) ≡ false)
     eof-comes-right-after-eighteen =
-        done-says doc stack c short (suc n) done-then (must-fail _ (λ e. clash _ marks-then (still-open (after (suc n) .reader) e .untold)))
+        (done-says doc stack c short (suc n) done-then (must-fail _ (λ e. clash _ marks-then (refuses-true (after (suc n) .reader) e .untold))), no-eof-so-far)
 
   mark-stays : (n : ℕ) → after n .reader .mark ≡ true → after (suc n) .reader .mark ≡ true
   unfolding run call
@@ -145,11 +170,6 @@ module _ (doc stack : List ℕ) (c : Config) (short : length doc ≤ longest) wh
 
   -- ---- a page that is whole
 
-  -- of two answers neither is such a one
-  or-right : (t u : Bool) → pick t true u ≡ false → u ≡ false
-  or-right true u e = clash true refl e
-  or-right false u e = e
-
   -- of the answers that turn the mark on, with neither 18 nor a refusal that ended the run there is Eof
   eof-is-left : (before : List Answer) → oneIs turnsOn before ≡ true → oneIs isUnclosed before ≡ false → oneIs isEnding before ≡ false → oneIs isEof before ≡ true
   unfolding oneIs
@@ -183,8 +203,8 @@ module _ (doc stack : List ℕ) (c : Config) (short : length doc ≤ longest) wh
         by : (d : ℕ) → after n .reader .depth .0 ≡ d → d ≡ 0
         by zero z = refl
         by (suc d) z =
-            clash (stillOpen (after n .reader))
-            (open-still (after n .reader) (record { some = omega arith; asked = setting doc stack c short n (λ (s : Config). s .«check_open_names») true asked; untold = off }))
+            clash (refusesEnd (after n .reader))
+            (true-refuses (after n .reader) (record { some = omega arith; asked = setting doc stack c short n (λ (s : Config). s .«check_open_names») true asked; untold = off }))
             (turn doc stack c short n .finish .over (eqb-true (valuesOf (answer n) .kind) (kindNumber Kind.Eof) e) .1)
 
     -- an Eof keeps the names
@@ -215,12 +235,13 @@ module _ (doc stack : List ℕ) (c : Config) (short : length doc ≤ longest) wh
         at-eof false m f told = eof-with n f m
         at-eof true m f told = told (sym (the-mark-is-what-the-answers-say n) ∙ m)
 
-    -- THEOREM: a page that ends with Eof, and with neither 18 nor a refusal that ended the run, is whole: no name is open, and Starts = Ends + mismatches
-    pub a-page-that-ends-with-eof-and-no-refusal-is-whole : c .«allow_unmatched_ends» ≡ false → (n : ℕ)
+    -- THEOREM: a page that ends with Eof, and with neither 18 nor a refusal that ended the run, is whole: no name is open, and, where unmatched ends are refused,
+    -- Starts = Ends + mismatches
+    pub a-page-that-ends-with-eof-and-no-refusal-is-whole : (n : ℕ)
         → oneIs isEof (answers n) ≡ true → oneIs isUnclosed (answers n) ≡ false → oneIs isEnding (answers n) ≡ false
-        → (opened (after n) ≡ []) × (count isStart (answers n) ≡ count isEnd (answers n) + count isMismatch (answers n))
+        → (opened (after n) ≡ []) × (c .«allow_unmatched_ends» ≡ false → count isStart (answers n) ≡ count isEnd (answers n) + count isMismatch (answers n))
     unfolding entries
-    a-page-that-ends-with-eof-and-no-refusal-is-whole refused n e u s =
+    a-page-that-ends-with-eof-and-no-refusal-is-whole n e u s =
         let z = none-open n e u s in
         let l : length (opened (after n)) ≡ 0 = entries-length (after n .stack) (after n .reader .depth .0) ∙ z in
-        (ap (entries (after n .stack)) z, omega (arith, starts-are-ends-mismatches-and-open doc stack c short refused n))
+        (ap (entries (after n .stack)) z, λ refused. omega (arith, starts-are-ends-mismatches-and-open doc stack c short refused n))

@@ -7,7 +7,7 @@ use Rattle.utf8.specs.Utf8.{inRanges, rowLen, checkFrom}
 use Rattle.parser.specs.Machine.{feed}
 use Rattle.state.specs.Limits.{capacity}
 use Rattle.state.specs.Place.{inner}
-use Rattle.state.specs.Make.{fresh, moved, withDepth, marked, told, ended, refused, stopped, stillOpen, ending}
+use Rattle.state.specs.Make.{fresh, moved, withDepth, marked, told, ended, refused, stopped, refusesEnd, ending}
 use Rattle.emit.specs.Text.{textContent, emitText, emitLastText}
 use Rattle.emit.specs.Reference.{emitRef, emitDangling}
 use Rattle.emit.specs.Bang.{bangEvent, emitComment, emitCData}
@@ -23,12 +23,12 @@ use Rattle.demands.specs.Open.{entries}
 use Rattle.demands.specs.Openings.{turnsFrom, turnsOf, listed, openings}
 use Rattle.demands.specs.Table.{shown, given, wanted, table}
 
--- THEOREM: what the definition gives for each row of the table is what document 01 has
+-- THEOREM: what the definition gives for each row of the table is what the row has
 pub worked : map given table ≡ map wanted table
-unfolding given wanted shown table run call step stepPhase stepText begin skipped taken checked emitted sound inPlace latest pushed written cutNext cutMarkup cutQuestion cutBang cutMarked cutTag unclosedTag cutRef cutText phaseAt whole stop emitStart opening tag slashed emitEnd matched differs unmatched endEvent closingName emitQuestionMark questionEvent isDecl emitCData emitComment bangEvent emitDangling emitRef emitLastText emitText textContent stopped refused ending stillOpen ended told marked withDepth moved fresh inner capacity feed checkFrom rowLen inRanges keptOf until begins same
+unfolding given wanted shown table run call step stepPhase stepText begin skipped taken checked emitted sound inPlace latest pushed written cutNext cutMarkup cutQuestion cutBang cutMarked cutTag unclosedTag cutRef cutText phaseAt whole stop emitStart opening tag slashed emitEnd matched differs unmatched endEvent closingName emitQuestionMark questionEvent isDecl emitCData emitComment bangEvent emitDangling emitRef emitLastText emitText textContent stopped refused ending refusesEnd ended told marked withDepth moved fresh inner capacity feed checkFrom rowLen inRanges keptOf until begins same
 worked = refl
 
 -- THEOREM: the names that are open after each call of the examples of demand 3 are those listed
 pub openings-worked : map turnsOf openings ≡ map listed openings
-unfolding turnsOf listed turnsFrom openings entries closeExpandedEmpty run call step stepPhase stepText begin skipped taken checked emitted sound inPlace latest pushed written cutNext cutMarkup cutQuestion cutBang cutMarked cutTag unclosedTag cutRef cutText phaseAt whole stop emitStart opening tag slashed emitEnd matched differs unmatched endEvent closingName emitQuestionMark questionEvent isDecl emitCData emitComment bangEvent emitDangling emitRef emitLastText emitText textContent stopped refused ending stillOpen ended told marked withDepth moved fresh inner capacity feed checkFrom rowLen inRanges keptOf until begins same
+unfolding turnsOf listed turnsFrom openings entries closeExpandedEmpty run call step stepPhase stepText begin skipped taken checked emitted sound inPlace latest pushed written cutNext cutMarkup cutQuestion cutBang cutMarked cutTag unclosedTag cutRef cutText phaseAt whole stop emitStart opening tag slashed emitEnd matched differs unmatched endEvent closingName emitQuestionMark questionEvent isDecl emitCData emitComment bangEvent emitDangling emitRef emitLastText emitText textContent stopped refused ending refusesEnd ended told marked withDepth moved fresh inner capacity feed checkFrom rowLen inRanges keptOf until begins same
 openings-worked = refl

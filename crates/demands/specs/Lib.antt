@@ -1,8 +1,8 @@
 pub mod Answers
 pub mod Run
 pub mod Calls
-pub mod Document01
+pub mod Eight
 pub mod Growing
 pub mod Open
-pub mod Table
 pub mod Openings
+pub mod Table

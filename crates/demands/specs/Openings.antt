@@ -10,7 +10,6 @@ use Rattle.state.specs.Place.{span}
 use Rattle.state.specs.Values.{kindNumber, valuesOf}
 use Rattle.demands.specs.Run.{World, said, call, run}
 use Rattle.demands.specs.Open.{opened}
-use Rattle.demands.specs.Table.{checking}
 
 -- one call: the kind of its event, or 0; the number of its refusal, or 0; the event's content, or 0..0; the open names after it, the latest first
 pub record Turn : Type 0 where
@@ -35,9 +34,9 @@ pub record Example : Type 0 where
 abbrev pub example : List ℕ → Config → ℕ → List Turn → Example
 example doc settings slots turns = record { doc = doc; settings = settings; slots = slots; turns = turns }
 
--- end checks, unmatched ends and expanded empty elements; the other settings as by default
-abbrev pub settings : Bool → Bool → Bool → Config
-settings check unmatched expand =
+-- end checks, unmatched ends, expanded empty elements and open names checked; the other settings as by default
+abbrev pub settings : Bool → Bool → Bool → Bool → Config
+settings check unmatched expand open-names =
     record {
       «allow_dangling_amp» = false;
       «allow_unmatched_ends» = unmatched;
@@ -47,7 +46,7 @@ settings check unmatched expand =
       «trim_markup_names_in_closing_tags» = true;
       «trim_text_start» = false;
       «trim_text_end» = false;
-      «check_open_names» = false;
+      «check_open_names» = open-names;
     }
 
 -- by the definition of a call
@@ -79,14 +78,14 @@ twice = 60 ∷ 97 ∷ 62 ∷ 60 ∷ 47 ∷ 97 ∷ 62 ∷ 60 ∷ 47 ∷ 97 ∷ 62
 unfoldable pub openings : List Example
 openings =
     -- `<t><r/>6</t>`: an element is opened and closed
-    (example nested (settings true false false) 4
+    (example nested (settings true false false false) 4
     (says Kind.Start (span 1 2) (span 1 2 ∷ [])
     ∷ says Kind.Empty (span 4 5) (span 1 2 ∷ [])
     ∷ says Kind.Text (span 7 8) (span 1 2 ∷ [])
     ∷ says Kind.End (span 10 11) []
     ∷ says Kind.Eof (span 12 12) [] ∷ []))
     -- and with empty elements expanded
-    ∷ (example nested (settings true false true) 4
+    ∷ (example nested (settings true false true false) 4
     (says Kind.Start (span 1 2) (span 1 2 ∷ [])
     ∷ says Kind.Start (span 4 5) (span 4 5 ∷ span 1 2 ∷ [])
     ∷ says Kind.End (span 4 5) (span 1 2 ∷ [])
@@ -94,65 +93,65 @@ openings =
     ∷ says Kind.End (span 10 11) []
     ∷ says Kind.Eof (span 12 12) [] ∷ []))
     -- `<d><t></d></t>`: closed crosswise; each mismatch takes a name away, and there is no End
-    ∷ (example crossed (settings true false false) 4
+    ∷ (example crossed (settings true false false false) 4
     (says Kind.Start (span 1 2) (span 1 2 ∷ [])
     ∷ says Kind.Start (span 4 5) (span 4 5 ∷ span 1 2 ∷ [])
     ∷ refuses 10 (span 1 2 ∷ [])
     ∷ refuses 10 []
     ∷ says Kind.Eof (span 14 14) [] ∷ []))
     -- and with end checks off: two Ends, each with the other's name
-    ∷ (example crossed (settings false false false) 4
+    ∷ (example crossed (settings false false false false) 4
     (says Kind.Start (span 1 2) (span 1 2 ∷ [])
     ∷ says Kind.Start (span 4 5) (span 4 5 ∷ span 1 2 ∷ [])
     ∷ says Kind.End (span 8 9) (span 1 2 ∷ [])
     ∷ says Kind.End (span 12 13) []
     ∷ says Kind.Eof (span 14 14) [] ∷ []))
     -- `<a></a></a>`: the second end finds nothing open and is refused
-    ∷ (example twice (settings true false false) 4
+    ∷ (example twice (settings true false false false) 4
     (says Kind.Start (span 1 2) (span 1 2 ∷ [])
     ∷ says Kind.End (span 5 6) []
     ∷ refuses 11 []
     ∷ says Kind.Eof (span 11 11) [] ∷ []))
     -- and with unmatched ends let through: an End more than Starts
-    ∷ (example twice (settings true true false) 4
+    ∷ (example twice (settings true true false false) 4
     (says Kind.Start (span 1 2) (span 1 2 ∷ [])
     ∷ says Kind.End (span 5 6) []
     ∷ says Kind.End (span 9 10) []
     ∷ says Kind.Eof (span 11 11) [] ∷ []))
     -- `<a b></a ><!x>`: the name is not all of the tag's content, the end's white space does not count, a refusal ends the run where it stands
-    ∷ (example (60 ∷ 97 ∷ 32 ∷ 98 ∷ 62 ∷ 60 ∷ 47 ∷ 97 ∷ 32 ∷ 62 ∷ 60 ∷ 33 ∷ 120 ∷ 62 ∷ []) (settings true false false) 4
+    ∷ (example (60 ∷ 97 ∷ 32 ∷ 98 ∷ 62 ∷ 60 ∷ 47 ∷ 97 ∷ 32 ∷ 62 ∷ 60 ∷ 33 ∷ 120 ∷ 62 ∷ []) (settings true false false false) 4
     (says Kind.Start (span 1 4) (span 1 2 ∷ [])
     ∷ says Kind.End (span 7 8) []
     ∷ refuses 8 []
     ∷ says Kind.Eof (span 10 10) [] ∷ []))
     -- `6<`: nothing after the last `<`
-    ∷ (example (54 ∷ 60 ∷ []) (settings true false false) 4
+    ∷ (example (54 ∷ 60 ∷ []) (settings true false false false) 4
     (says Kind.Text (span 0 1) []
     ∷ refuses 1 []
     ∷ says Kind.Eof (span 1 1) [] ∷ []))
     -- `<a>&b&c;<d>` with room for one name: a refused reference, a reference, a refused Start; the name stays open
-    ∷ (example (60 ∷ 97 ∷ 62 ∷ 38 ∷ 98 ∷ 38 ∷ 99 ∷ 59 ∷ 60 ∷ 100 ∷ 62 ∷ []) (settings true false false) 3
+    ∷ (example (60 ∷ 97 ∷ 62 ∷ 38 ∷ 98 ∷ 38 ∷ 99 ∷ 59 ∷ 60 ∷ 100 ∷ 62 ∷ []) (settings true false false false) 3
     (says Kind.Start (span 1 2) (span 1 2 ∷ [])
     ∷ refuses 12 (span 1 2 ∷ [])
     ∷ says Kind.GeneralRef (span 6 7) (span 1 2 ∷ [])
     ∷ refuses 15 (span 1 2 ∷ [])
     ∷ says Kind.Eof (span 8 8) (span 1 2 ∷ []) ∷ []))
     -- and with open names checked: 15 ended the run, so there is no 18
-    ∷ (example (60 ∷ 97 ∷ 62 ∷ 38 ∷ 98 ∷ 38 ∷ 99 ∷ 59 ∷ 60 ∷ 100 ∷ 62 ∷ []) (checking false false) 3
+    ∷ (example (60 ∷ 97 ∷ 62 ∷ 38 ∷ 98 ∷ 38 ∷ 99 ∷ 59 ∷ 60 ∷ 100 ∷ 62 ∷ []) (settings true false false true) 3
     (says Kind.Start (span 1 2) (span 1 2 ∷ [])
     ∷ refuses 12 (span 1 2 ∷ [])
     ∷ says Kind.GeneralRef (span 6 7) (span 1 2 ∷ [])
     ∷ refuses 15 (span 1 2 ∷ [])
     ∷ says Kind.Eof (span 8 8) (span 1 2 ∷ []) ∷ []))
     -- `<a>&b` with open names checked: 12 did not end the run, and 18 comes once; the name stays open
-    ∷ (example (60 ∷ 97 ∷ 62 ∷ 38 ∷ 98 ∷ []) (checking false false) 4
+    ∷ (example (60 ∷ 97 ∷ 62 ∷ 38 ∷ 98 ∷ []) (settings true false false true) 4
     (says Kind.Start (span 1 2) (span 1 2 ∷ [])
     ∷ refuses 12 (span 1 2 ∷ [])
     ∷ refuses 18 (span 1 2 ∷ [])
     ∷ says Kind.Eof (span 5 5) (span 1 2 ∷ [])
     ∷ says Kind.Eof (span 5 5) (span 1 2 ∷ []) ∷ []))
     -- `<t><r/>6</t>` with open names checked: all is closed
-    ∷ (example nested (checking false false) 4
+    ∷ (example nested (settings true false false true) 4
     (says Kind.Start (span 1 2) (span 1 2 ∷ [])
     ∷ says Kind.Empty (span 4 5) (span 1 2 ∷ [])
     ∷ says Kind.Text (span 7 8) (span 1 2 ∷ [])

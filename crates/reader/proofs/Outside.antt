@@ -37,9 +37,9 @@ use Rattle.state.specs.declared.run.Step.{Step}
 use Rattle.state.specs.Place.{at, span, size, depthOf, inner}
 use Rattle.state.specs.Limits.{capacity}
 use Rattle.state.specs.Values.{kindNumber, numberedOf, valuesOf, endsRun, turnsOn}
-use Rattle.state.specs.Make.{event, moved, withDepth, marked, told, ended, refused, stopped, stillOpen, ending}
+use Rattle.state.specs.Make.{event, moved, withDepth, marked, told, ended, refused, stopped, refusesEnd, ending}
 use Rattle.state.proofs.Numbers.{no-number}
-use Rattle.state.proofs.Open.{owed, owed-few, owed-marked, owed-less}
+use Rattle.state.proofs.Refused.{owed, owed-few, owed-marked, owed-less}
 use Rattle.state.proofs.Spans.{inner-lies, fits}
 use Rattle.emit.specs.Text.{textContent, emitText, emitLastText}
 use Rattle.emit.specs.Reference.{emitRef, emitDangling}
@@ -112,11 +112,10 @@ pub record Encoded (doc : List ℕ) (r : Reader) (s : Step) : Type 0 where
   pub going : (s .reader .phase ≡ Phase.Done → ⊥) → Octets (bytes doc (valuesOf (s .answer) .piece))
   pub ill : valuesOf (s .answer) .number ≡ 13 → FirstIll doc (valuesOf (s .answer) .piece) (valuesOf (s .answer) .place)
 
--- what a call says of the end: Eof with nothing still open, 18 while something is, at the latest open name; the reader is done after either. And what it does to
--- the mark
+-- what a call says of the end: Eof where it is not refused, 18 where it is, at the latest open name; the reader is done after either. And what it does to the mark
 pub record Finished (last : Span) (r : Reader) (s : Step) : Type 0 where
-  pub over : valuesOf (s .answer) .kind ≡ kindNumber Kind.Eof → (s .reader .phase ≡ Phase.Done) × (stillOpen r ≡ false)
-  pub unclosed : valuesOf (s .answer) .number ≡ 18 → (s .reader .phase ≡ Phase.Done) × (stillOpen r ≡ true) × (valuesOf (s .answer) .place ≡ last .from)
+  pub over : valuesOf (s .answer) .kind ≡ kindNumber Kind.Eof → (s .reader .phase ≡ Phase.Done) × (refusesEnd r ≡ false)
+  pub unclosed : valuesOf (s .answer) .number ≡ 18 → (s .reader .phase ≡ Phase.Done) × (refusesEnd r ≡ true) × (valuesOf (s .answer) .place ≡ last .from)
   pub mark : s .reader .mark ≡ pick (turnsOn (s .answer)) true (r .mark)
 
 pub record Turned (doc : List ℕ) (cap : ℕ) (last : Span) (r : Reader) (s : Step) : Type 0 where
@@ -228,7 +227,7 @@ module _ (doc : List ℕ) (cap : ℕ) (last : Span) (r : Reader) (piece : Span) 
   told-turn : (b : Reader) (kind : Kind) (content : Span) (name : ℕ) (next : Phase) → Like r b → Next doc r b (piece .to) next
       → Octets (bytes doc piece) → Finished last r (told b (event kind piece content name) next) → Unpaired doc r piece kind
       → Names (told b (event kind piece content name) next) → Turn (told b (event kind piece content name) next)
-  unfolding told moved inPlace stillOpen
+  unfolding told moved inPlace refusesEnd
   told-turn b kind content name next l n w o u k =
       record {
         size = l .size;
@@ -248,7 +247,7 @@ module _ (doc : List ℕ) (cap : ℕ) (last : Span) (r : Reader) (piece : Span) 
   refused-turn : (b : Reader) (error : Error) (place : Position) (next : Phase) → Like r b → Next doc r b (piece .to) next
       → ((next ≡ Phase.Done → ⊥) → Octets (bytes doc piece)) → Finished last r (refused b error place piece next) → Placed doc r piece error place
       → Names (refused b error place piece next) → Turn (refused b error place piece next)
-  unfolding refused moved inPlace stillOpen
+  unfolding refused moved inPlace refusesEnd
   refused-turn b error place next l n w o p k =
       record {
         size = l .size;
@@ -330,14 +329,14 @@ module _ (doc : List ℕ) (cap : ℕ) (last : Span) (r : Reader) (piece : Span) 
 
   -- ---- the end
 
-  eof-turn : Octets (bytes doc piece) → stillOpen r ≡ false → Turn (ended r piece)
+  eof-turn : Octets (bytes doc piece) → refusesEnd r ≡ false → Turn (ended r piece)
   unfolding ended told moved marked
   eof-turn w e =
       told-turn (marked r) Kind.Eof _ 0 Phase.Done (like-marked r) to-end w
       (record { over = λ _. (refl, e); unclosed = λ e. absurd (omega arith); mark = refl }) (λ e. absurd (omega arith)) (keeps (omega arith) refl)
 
   -- 18
-  unclosed-turn : stillOpen r ≡ true → Turn (stopped r Error.UnclosedElements (at (last .from)) piece)
+  unclosed-turn : refusesEnd r ≡ true → Turn (stopped r Error.UnclosedElements (at (last .from)) piece)
   unfolding stopped refused moved marked
   unclosed-turn e =
       refused-turn (marked r) Error.UnclosedElements _ Phase.Done (like-marked r) to-end (λ n. absurd (n refl))
@@ -345,7 +344,7 @@ module _ (doc : List ℕ) (cap : ℕ) (last : Span) (r : Reader) (piece : Span) 
 
   end-turn : Octets (bytes doc piece) → Turn (ending r last piece)
   unfolding ending
-  end-turn w = pick-cases Turn (stillOpen r) _ _ (λ e. unclosed-turn e) (λ e. eof-turn w e)
+  end-turn w = pick-cases Turn (refusesEnd r) _ _ (λ e. unclosed-turn e) (λ e. eof-turn w e)
 
   -- ---- text, references, comments, CDATA, processing instructions
 

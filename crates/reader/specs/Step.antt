@@ -1,6 +1,6 @@
 -- One call (document 01, "Steps" and "When a call is refused"; the place of 13, and 18, by document 02). The order of refusals is the order in which a definition
 -- hands on to the next: 17 in `step`; 14 and 8, and no closer (1 to 7), in the cutting of the piece; 13 in `checked`; the kind's own, and 15 or 18 last, in what
--- the piece becomes.
+-- the piece becomes. Where there is no piece, Eof and 18 are all there is.
 use Prim.Native.Nat.{ℕ, _+_}
 use mathlib.Core.Path.{_≡_}
 use mathlib.Core.List.{List, [], _∷_}

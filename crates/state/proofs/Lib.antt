@@ -1,4 +1,4 @@
 pub mod Numbers
-pub mod Open
+pub mod Refused
 pub mod Room
 pub mod Spans

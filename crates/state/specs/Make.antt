@@ -62,14 +62,14 @@ refused r e place piece next = record { reader = moved r next (piece .to); answe
 unfoldable pub stopped : Reader → Error → Position → Span → Step
 stopped r e place piece = refused (marked r) e place piece Phase.Done
 
--- "a name is open", "the setting is on" and "the mark is off"
-unfoldable pub stillOpen : Reader → Bool
-stillOpen r = allOf (ltb 0 (r .depth .0) ∷ r .settings .«check_open_names» ∷ not (r .mark) ∷ [])
+-- whether Eof is refused where it is due: "the setting is on, a name is open and the mark is off"
+unfoldable pub refusesEnd : Reader → Bool
+refusesEnd r = allOf (ltb 0 (r .depth .0) ∷ r .settings .«check_open_names» ∷ not (r .mark) ∷ [])
 
--- where Eof is due: 18 instead, while names are still open. "Its place is the start of the latest open name; piece and position are those of the Eof it replaces,
+-- where Eof is due: Eof, or 18 instead. "Its place is the start of the latest open name; piece and position are those of the Eof it replaces,
 -- names and stack are kept and the phase is Done"
 unfoldable pub ending : Reader → Span → Span → Step
-ending r last piece = pick (stillOpen r) (stopped r Error.UnclosedElements (at (last .from)) piece) (ended r piece)
+ending r last piece = pick (refusesEnd r) (stopped r Error.UnclosedElements (at (last .from)) piece) (ended r piece)
 
 -- 17: "place 0", "the piece of 16 and 17 is 0..0"
 abbrev pub badAnswer : Answer

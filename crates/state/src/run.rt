@@ -11,7 +11,7 @@ use crate::place::Position;
 use crate::place::Span;
 ghost use mathlib.Core.Path.{_≡_};
 ghost use lib.ListN.{length};
-ghost use Rattle.state.specs.Make.{made, moved as movedOf, withDepth, marked as markedOf, told, ended, stillOpen, ending, stopped, refused, badState};
+ghost use Rattle.state.specs.Make.{made, moved as movedOf, withDepth, marked as markedOf, told, ended, refusesEnd, ending, stopped, refused, badState};
 
 // What the next bytes are read as.
 pub enum Phase {
@@ -31,7 +31,7 @@ pub struct Reader {
     // How many bytes the document has.
     pub length: usize,
     pub settings: Config,
-    // Whether the run's end was told: by Eof, or by a refusal that ended the run.
+    // Whether the run's end was told: by Eof, by the refusal of it, or by one that ended the run.
     pub mark: bool,
 }
 
@@ -132,20 +132,20 @@ impl Reader {
         }
     }
 
-    // End of file, or, while names are still open, its refusal. `last` is the latest open name.
+    // End of file, or the refusal of it. `last` is the latest open name.
     pub fn end(self, last: Span, piece: Span) -> Step
         ensures { λ r. ⌜ r ≡ ending self last piece ⌝ }
     {
-        if self.still_open() {
+        if self.refuses_end() {
             self.stop(Error::UnclosedElements, Position(last.from), piece)
         } else {
             self.eof(piece)
         }
     }
 
-    // Whether the end is to be refused: names are open, that is asked for, and the end was not told yet.
-    fn still_open(self) -> bool
-        ensures { λ r. ⌜ r ≡ stillOpen self ⌝ }
+    // Whether end of file is refused where it is due: names are open, that is checked, and the end was not told before.
+    fn refuses_end(self) -> bool
+        ensures { λ r. ⌜ r ≡ refusesEnd self ⌝ }
     {
         let settings = self.settings;
         if 0 < self.depth.0 {

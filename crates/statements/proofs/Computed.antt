@@ -12,7 +12,7 @@ use Rattle.utf8.specs.Utf8.{inRanges, rowLen, checkFrom}
 use Rattle.parser.specs.Machine.{feed}
 use Rattle.state.specs.Limits.{capacity}
 use Rattle.state.specs.Place.{inner}
-use Rattle.state.specs.Make.{fresh, moved, withDepth, marked, told, ended, refused, stopped, stillOpen, ending}
+use Rattle.state.specs.Make.{fresh, moved, withDepth, marked, told, ended, refused, stopped, refusesEnd, ending}
 use Rattle.emit.specs.Text.{textContent, emitText, emitLastText}
 use Rattle.emit.specs.Reference.{emitRef, emitDangling}
 use Rattle.emit.specs.Bang.{bangEvent, emitComment, emitCData}
@@ -30,7 +30,7 @@ use Rattle.statements.proofs.Settled.{number, flag, phase, slots, setti
 
 -- at worlds that are worked out
 settled-hold : map (settled left) openings ≡ map (settled right) openings
-unfolding settled settledFrom world number flag phase slots settings leftOpen count oneIs badState openings entries closeExpandedEmpty run call step stepPhase stepText begin skipped taken checked emitted sound inPlace latest pushed written cutNext cutMarkup cutQuestion cutBang cutMarked cutTag unclosedTag cutRef cutText phaseAt whole stop emitStart opening tag slashed emitEnd matched differs unmatched endEvent closingName emitQuestionMark questionEvent isDecl emitCData emitComment bangEvent emitDangling emitRef emitLastText emitText textContent stopped refused ending stillOpen ended told marked withDepth moved fresh inner capacity feed checkFrom rowLen inRanges keptOf until begins same
+unfolding settled settledFrom world number flag phase slots settings leftOpen count oneIs badState openings entries closeExpandedEmpty run call step stepPhase stepText begin skipped taken checked emitted sound inPlace latest pushed written cutNext cutMarkup cutQuestion cutBang cutMarked cutTag unclosedTag cutRef cutText phaseAt whole stop emitStart opening tag slashed emitEnd matched differs unmatched endEvent closingName emitQuestionMark questionEvent isDecl emitCData emitComment bangEvent emitDangling emitRef emitLastText emitText textContent stopped refused ending refusesEnd ended told marked withDepth moved fresh inner capacity feed checkFrom rowLen inRanges keptOf until begins same
 settled-hold = refl
 
 -- THEOREM
@@ -39,5 +39,5 @@ clauses-hold = sym (all-settled left openings) ∙ settled-hold ∙ all-settled 
 
 -- THEOREM
 pub end-comes : map ends openings ≡ map wanted openings
-unfolding ends wanted badState openings entries closeExpandedEmpty run call step stepPhase stepText begin skipped taken checked emitted sound inPlace latest pushed written cutNext cutMarkup cutQuestion cutBang cutMarked cutTag unclosedTag cutRef cutText phaseAt whole stop emitStart opening tag slashed emitEnd matched differs unmatched endEvent closingName emitQuestionMark questionEvent isDecl emitCData emitComment bangEvent emitDangling emitRef emitLastText emitText textContent stopped refused ending stillOpen ended told marked withDepth moved fresh inner capacity feed checkFrom rowLen inRanges keptOf until begins same
+unfolding ends wanted badState openings entries closeExpandedEmpty run call step stepPhase stepText begin skipped taken checked emitted sound inPlace latest pushed written cutNext cutMarkup cutQuestion cutBang cutMarked cutTag unclosedTag cutRef cutText phaseAt whole stop emitStart opening tag slashed emitEnd matched differs unmatched endEvent closingName emitQuestionMark questionEvent isDecl emitCData emitComment bangEvent emitDangling emitRef emitLastText emitText textContent stopped refused ending refusesEnd ended told marked withDepth moved fresh inner capacity feed checkFrom rowLen inRanges keptOf until begins same
 end-comes = refl

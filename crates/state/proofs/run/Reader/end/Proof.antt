@@ -6,11 +6,11 @@ use Rattle.state.proofs.run.Reader.end.Tie as tie
 
 returns : tie.Need-returns
 unfolding ending
-returns c = simp (c .before .if1 .taken, ← c .before .before .still-open .ensures) (c .stop .ensures)
+returns c = simp (c .before .if1 .taken, ← c .before .before .refuses-end .ensures) (c .stop .ensures)
 
 returns-2 : tie.Need-returns-2
 unfolding ending
-returns-2 c = simp (c .before .if1 .left, ← c .before .before .still-open .ensures) (c .eof .ensures)
+returns-2 c = simp (c .before .if1 .left, ← c .before .before .refuses-end .ensures) (c .eof .ensures)
 
 pub end-spec : {M : Type 1} → statement M
 end-spec =

@@ -1,4 +1,5 @@
--- A call as document 01 alone has it, with eight settings and no mark: Eof wherever it is due, whatever is open. All else is taken from the definition of a call.
+-- A call with eight settings and no mark: document 01 as the other requests amend it. It is Eof wherever that is due, whatever is open; all else is taken from the
+-- definition of a call.
 use Prim.Native.Nat.{ℕ}
 use mathlib.Core.Bool.{false}
 use mathlib.Core.List.{List}
@@ -31,7 +32,7 @@ use Rattle.reader.specs.Names.{latest}
 use Rattle.reader.specs.Sound.{sound}
 use Rattle.reader.specs.Step.{skipped, begin}
 
--- the eight settings: the ninth is off
+-- eight settings: the ninth is off
 unfoldable pub eight : Config → Config
 eight c =
     record {
@@ -47,48 +48,48 @@ eight c =
     }
 
 -- a reader, and what a call leaves and answers, in all but the ninth setting and the mark
-unfoldable pub reader01 : Reader → Reader
-reader01 r = record { phase = r .phase; position = r .position; depth = r .depth; length = r .length; settings = eight (r .settings); mark = false }
+unfoldable pub reader8 : Reader → Reader
+reader8 r = record { phase = r .phase; position = r .position; depth = r .depth; length = r .length; settings = eight (r .settings); mark = false }
 
-unfoldable pub only01 : Step → Step
-only01 s = record { reader = reader01 (s .reader); answer = s .answer }
+unfoldable pub only8 : Step → Step
+only8 s = record { reader = reader8 (s .reader); answer = s .answer }
 
 module _ (doc : List ℕ) (r : Reader) (last : Span) (cap : Depth) where
   -- what a piece becomes: "at the end of input it is Eof"
-  abbrev pub emittedAs01 : Shape → Span → Phase → Step
-  emittedAs01 Shape.Text piece next = emitText doc r piece next
-  emittedAs01 Shape.LastText piece next =
+  abbrev pub emittedAs8 : Shape → Span → Phase → Step
+  emittedAs8 Shape.Text piece next = emitText doc r piece next
+  emittedAs8 Shape.LastText piece next =
       pick (eqb (size (textContent doc (r .settings) piece)) 0) (ended r piece) (emitText doc r piece Phase.Done)
-  emittedAs01 Shape.GeneralRef piece next = emitRef r piece
-  emittedAs01 Shape.Dangling piece next = emitDangling r piece next
-  emittedAs01 Shape.Comment piece next = emitComment doc r piece
-  emittedAs01 Shape.CData piece next = emitCData doc r piece
-  emittedAs01 Shape.QuestionMark piece next = emitQuestionMark doc r piece
-  emittedAs01 Shape.End piece next = emitEnd doc r last piece
-  emittedAs01 Shape.Start piece next = emitStart doc r cap piece
+  emittedAs8 Shape.GeneralRef piece next = emitRef r piece
+  emittedAs8 Shape.Dangling piece next = emitDangling r piece next
+  emittedAs8 Shape.Comment piece next = emitComment doc r piece
+  emittedAs8 Shape.CData piece next = emitCData doc r piece
+  emittedAs8 Shape.QuestionMark piece next = emitQuestionMark doc r piece
+  emittedAs8 Shape.End piece next = emitEnd doc r last piece
+  emittedAs8 Shape.Start piece next = emitStart doc r cap piece
 
-  unfoldable pub checked01 : Piece → Step
-  checked01 p =
+  unfoldable pub checked8 : Piece → Step
+  checked8 p =
       byUtf8 (check (p .span .from) (part doc (p .span .from) (p .span .to)))
-      (emittedAs01 (p .shape) (p .span) (p .next))
+      (emittedAs8 (p .shape) (p .span) (p .next))
       (λ ill. stopped r Error.Encoding (at ill) (p .span))
 
-  unfoldable pub taken01 : Cut → Step
-  taken01 (Cut.Piece p) = checked01 p
-  taken01 (Cut.Stop x) = stopped r (x .error) (x .place) (x .piece)
+  unfoldable pub taken8 : Cut → Step
+  taken8 (Cut.Piece p) = checked8 p
+  taken8 (Cut.Stop x) = stopped r (x .error) (x .place) (x .piece)
 
-  abbrev pub stepIn01 : Phase → Step
-  stepIn01 Phase.Init = taken01 (cutNext doc (skipped doc (r .settings) (begin doc)))
-  stepIn01 Phase.InsideText = taken01 (cutNext doc (skipped doc (r .settings) (r .position .0)))
-  stepIn01 Phase.InsideMarkup = taken01 (cutMarkup doc (r .position .0))
-  stepIn01 Phase.InsideRef = taken01 (cutRef doc (r .position .0))
-  stepIn01 Phase.InsideEmpty = closeExpandedEmpty r last
+  abbrev pub stepIn8 : Phase → Step
+  stepIn8 Phase.Init = taken8 (cutNext doc (skipped doc (r .settings) (begin doc)))
+  stepIn8 Phase.InsideText = taken8 (cutNext doc (skipped doc (r .settings) (r .position .0)))
+  stepIn8 Phase.InsideMarkup = taken8 (cutMarkup doc (r .position .0))
+  stepIn8 Phase.InsideRef = taken8 (cutRef doc (r .position .0))
+  stepIn8 Phase.InsideEmpty = closeExpandedEmpty r last
   -- "Done: Eof, all four numbers the position"
-  stepIn01 Phase.Done = ended r (span (r .position .0) (r .position .0))
+  stepIn8 Phase.Done = ended r (span (r .position .0) (r .position .0))
 
--- the call of document 01, on a reader as it has them
-unfoldable pub step01 : List ℕ → List ℕ → Reader → Step
-step01 doc stack r =
-    pick (sound doc stack (reader01 r))
-    (stepIn01 doc (reader01 r) (latest stack (r .depth .0)) (depthOf (capacity (length stack))) (r .phase))
-    (badState (reader01 r))
+-- that call, on a reader with eight settings and no mark
+unfoldable pub step8 : List ℕ → List ℕ → Reader → Step
+step8 doc stack r =
+    pick (sound doc stack (reader8 r))
+    (stepIn8 doc (reader8 r) (latest stack (r .depth .0)) (depthOf (capacity (length stack))) (r .phase))
+    (badState (reader8 r))
