@@ -17,8 +17,16 @@ const SMALL: usize = 64;
 #[derive(Clone, Copy)]
 pub struct Case<'a> {
     pub document: &'a [u8],
-    pub settings: u8,
+    pub settings: u16,
     pub slots: usize,
+    /// What is put into the slot of the mark before the first call: 0 leaves it off.
+    pub mark: usize,
+}
+
+impl<'a> Case<'a> {
+    pub fn new(document: &'a [u8], settings: u16, slots: usize) -> Self {
+        Self { document, settings, slots, mark: 0 }
+    }
 }
 
 /// A difference that is not listed: the call, from 1, and what differs, a bit of `FIELDS` each.
@@ -32,7 +40,7 @@ pub struct Difference {
 pub const PANIC: Difference = Difference { call: 0, fields: 0 };
 
 /// Names of what can differ: the slots of an answer, then those of a state, then the rest.
-pub const FIELDS: [&str; 28] = [
+pub const FIELDS: [&str; 29] = [
     "kind",
     "number",
     "place",
@@ -50,6 +58,7 @@ pub const FIELDS: [&str; 28] = [
     "depth",
     "length",
     "settings",
+    "mark",
     "returned number",
     "stack",
     "open names",
@@ -63,17 +72,17 @@ pub const FIELDS: [&str; 28] = [
     "bytes that are well formed",
 ];
 const STATE_BITS: usize = ANSWER_SLOTS;
-const RETURNED: u32 = 1 << 17;
-const STACK: u32 = 1 << 18;
-const OPEN: u32 = 1 << 19;
-const BYTES: u32 = 1 << 20;
-const SLOT: u32 = 1 << 21;
-const LATE: u32 = 1 << 22;
-const LEAVING: u32 = 1 << 23;
-const MAKING: u32 = 1 << 24;
-const PART: u32 = 1 << 25;
-const LISTED: u32 = 1 << 26;
-const GOOD: u32 = 1 << 27;
+const RETURNED: u32 = 1 << 18;
+const STACK: u32 = 1 << 19;
+const OPEN: u32 = 1 << 20;
+const BYTES: u32 = 1 << 21;
+const SLOT: u32 = 1 << 22;
+const LATE: u32 = 1 << 23;
+const LEAVING: u32 = 1 << 24;
+const MAKING: u32 = 1 << 25;
+const PART: u32 = 1 << 26;
+const LISTED: u32 = 1 << 27;
+const GOOD: u32 = 1 << 28;
 
 /// What the crate's side was before a call.
 pub struct Before {
@@ -106,6 +115,8 @@ pub struct Bench<E> {
     shadow: Vec<usize>,
     /// How many names the case had open at most.
     most: usize,
+    /// What the slot of the mark has to be.
+    mark: usize,
     state: [usize; STATE_SLOTS + MARGIN],
     answer: [usize; ANSWER_SLOTS + MARGIN],
 }
@@ -117,23 +128,24 @@ impl<E: Engine> Bench<E> {
             stack: Vec::new(),
             shadow: Vec::new(),
             most: 0,
+            mark: 0,
             state: [CANARY; STATE_SLOTS + MARGIN],
             answer: [CANARY; ANSWER_SLOTS + MARGIN],
         }
     }
 
-    /// Runs a case to its second Eof, or to where it leaves the domain of equality.
-    pub fn run(&mut self, case: &Case, tally: &mut Tally) -> Result<(), Difference> {
+    /// Runs a case to its second Eof, or to where it leaves the domain of equality: whether names are open there.
+    pub fn run(&mut self, case: &Case, tally: &mut Tally) -> Result<bool, Difference> {
         tally.inputs += 1;
         let result = self.steps(case, tally);
         self.wipe(case, result.is_err());
         result
     }
 
-    fn steps(&mut self, case: &Case, tally: &mut Tally) -> Result<(), Difference> {
+    fn steps(&mut self, case: &Case, tally: &mut Tally) -> Result<bool, Difference> {
         if !self.make(case)? {
             tally.left[TOO_LONG - DOCTYPE] += 1;
-            return Ok(());
+            return Ok(false);
         }
         let mut theirs = Theirs::new(case.document, case.settings);
         if (theirs.phase(), theirs.position(), theirs.place(), theirs.depth()) != (INIT, 0, 0, 0) {
@@ -149,7 +161,7 @@ impl<E: Engine> Bench<E> {
                 return self.leave(case, &mut theirs, call, returned, tally);
             }
             let before = Before::of(&theirs);
-            let seen = theirs.read();
+            let seen = self.due(case, &mut theirs);
             let mut fields = self.compare(case, &before, &theirs, &seen, returned);
             if fields & STACK == 0 && !self.names_hold(case, &theirs, looked_through(call, theirs.depth()) || seen.kind == EOF) {
                 fields |= OPEN;
@@ -166,7 +178,26 @@ impl<E: Engine> Bench<E> {
             }
             eofs += ended as usize;
         }
-        self.whole_stack(case, call)
+        self.whole_stack(case, call)?;
+        Ok(theirs.depth() > 0)
+    }
+
+    /// What ours has to answer, by the crate's answer and its open names: with `check_open_names` 18 stands for an Eof that leaves names open, unless
+    /// the mark is on, as it is behind every answer that turns it on.
+    fn due(&mut self, case: &Case, theirs: &mut Theirs) -> Seen {
+        let mut seen = theirs.read();
+        if seen.kind == EOF && case.settings & OPEN_NAMES != 0 && theirs.depth() > 0 && self.mark == 0 {
+            seen = Seen { number: UNCLOSED, ..Seen::default() };
+        }
+        self.told(seen.kind, seen.number);
+        seen
+    }
+
+    /// Turns the mark on behind an answer that does: a slot that is not 0 stays as it is.
+    fn told(&mut self, kind: usize, number: usize) {
+        if marks(kind, number) {
+            self.mark = self.mark.max(1);
+        }
     }
 
     /// Makes a reader: false if the document is too long, as it then has to say.
@@ -179,13 +210,17 @@ impl<E: Engine> Bench<E> {
         let returned = self.engine.make(case.document, case.settings.into(), &mut self.state[..slots]);
         let mut wanted = [CANARY; STATE_SLOTS + MARGIN];
         if length <= LONGEST {
-            wanted[..STATE_SLOTS].copy_from_slice(&[INIT, 0, 0, length, case.settings.into()]);
+            wanted[..STATE_SLOTS].copy_from_slice(&[INIT, 0, 0, length, case.settings.into(), 0]);
         }
         let number = if length <= LONGEST { 0 } else { TOO_LONG };
         if returned != number || self.state != wanted {
             return Err(Difference { call: 0, fields: MAKING });
         }
-        Ok(length <= LONGEST)
+        self.mark = case.mark;
+        if number == 0 {
+            self.state[MARK] = case.mark;
+        }
+        Ok(number == 0)
     }
 
     fn read(&mut self, case: &Case) -> usize {
@@ -230,7 +265,7 @@ impl<E: Engine> Bench<E> {
             self.most = self.most.max(depth);
         }
         let wanted = self.wanted(case, before, theirs, seen);
-        let state = [theirs.phase(), theirs.position() + theirs.mark, depth, case.document.len(), case.settings.into()];
+        let state = [theirs.phase(), theirs.position() + theirs.mark, depth, case.document.len(), case.settings.into(), self.mark];
         let mut fields = bits(&self.answer, &wanted, 0) | bits(&self.state, &state, STATE_BITS);
         if returned != wanted[NUMBER] {
             fields |= RETURNED;
@@ -259,7 +294,9 @@ impl<E: Engine> Bench<E> {
         wanted[NUMBER] = seen.number;
         wanted[PIECE_FROM] = start;
         wanted[PIECE_TO] = theirs.position() + theirs.mark;
-        if seen.number != 0 {
+        if seen.number == UNCLOSED {
+            wanted[PLACE] = self.top(before.depth).0;
+        } else if seen.number != 0 {
             wanted[PLACE] = theirs.place() + theirs.mark;
         } else {
             let (from, to) = match seen.content {
@@ -357,9 +394,10 @@ impl<E: Engine> Bench<E> {
     }
 
     /// Ours answered 14 or 15: it has to be right to, leave everything as it was, and be at its end.
-    fn leave(&mut self, case: &Case, theirs: &mut Theirs, call: usize, returned: usize, tally: &mut Tally) -> Result<(), Difference> {
+    fn leave(&mut self, case: &Case, theirs: &mut Theirs, call: usize, returned: usize, tally: &mut Tally) -> Result<bool, Difference> {
         let before = Before::of(theirs);
         let number = self.answer[NUMBER];
+        self.told(0, number);
         let start = before.start(case, theirs.mark);
         let skipped = start + theirs.rest().len() - case.document.len();
         let opens = matches!(theirs.rest().get(skipped..skipped + 3), Some(b"<!D" | b"<!d"));
@@ -372,7 +410,7 @@ impl<E: Engine> Bench<E> {
         let mut wanted = [0; ANSWER_SLOTS];
         wanted[NUMBER] = number;
         (wanted[PLACE], wanted[PIECE_FROM], wanted[PIECE_TO]) = (start, start, start);
-        let state = [DONE, start, before.depth, case.document.len(), case.settings.into()];
+        let state = [DONE, start, before.depth, case.document.len(), case.settings.into(), self.mark];
         let mut fields = bits(&self.answer, &wanted, 0) | bits(&self.state, &state, STATE_BITS) | self.margins();
         if !right || returned != number {
             fields |= LEAVING;
@@ -385,10 +423,11 @@ impl<E: Engine> Bench<E> {
         }
         tally.calls += 2;
         tally.left[number - DOCTYPE] += 1;
-        self.whole_stack(case, call)
+        self.whole_stack(case, call)?;
+        Ok(before.depth > 0)
     }
 
-    /// After 14 and 15 ours answers Eof, and changes nothing.
+    /// After 14 and 15 ours answers Eof, with names open too, and changes nothing.
     fn stays(&mut self, case: &Case, state: &[usize], at: usize) -> u32 {
         let returned = self.read(case);
         let wanted = [EOF, 0, 0, at, at, at, at, 0, 0, 0, 0, 0];
@@ -416,7 +455,7 @@ pub fn first_ill(document: &[u8]) -> usize {
 }
 
 /// Where the piece starts: told by where the crate's content lies, or by its place of a refusal. The crate has nothing to tell it by for
-/// Eof, 9, and 13 in text or a reference: there it is where the call before stopped, with what is skipped.
+/// Eof, which 18 stands for too, 9, and 13 in text or a reference: there it is where the call before stopped, with what is skipped.
 fn start_of(case: &Case, before: &Before, theirs: &Theirs, seen: &Seen) -> usize {
     let opener = match seen.kind {
         TEXT => 0,
@@ -428,7 +467,7 @@ fn start_of(case: &Case, before: &Before, theirs: &Theirs, seen: &Seen) -> usize
     };
     match (seen.content, seen.number) {
         (Some((from, _)), _) => from.wrapping_sub(opener),
-        (None, 0 | DOUBLE_HYPHEN) => before.start(case, theirs.mark),
+        (None, 0 | DOUBLE_HYPHEN | UNCLOSED) => before.start(case, theirs.mark),
         (None, ENCODING) => {
             let start = before.start(case, theirs.mark);
             if case.document.get(start) == Some(&b'<') {

@@ -11,7 +11,7 @@ use std::sync::Mutex;
 /// A fault: the settings that the reader goes by in place of those given, when an answer is changed, and how.
 pub struct Fault {
     name: &'static str,
-    settings: fn(u8) -> u8,
+    settings: fn(u16) -> u16,
     when: fn(&Call) -> bool,
     then: fn(&mut Call),
     /// What is made of the number and the state that a reader is made with, and of a part that is handed out.
@@ -21,7 +21,7 @@ pub struct Fault {
 
 const SOUND: Fault = Fault { name: "none", settings: |s| s, when: |_| false, then: |_| (), made: |_, _| (), part: |_| () };
 
-const fn flag(name: &'static str, settings: fn(u8) -> u8) -> Fault {
+const fn flag(name: &'static str, settings: fn(u16) -> u16) -> Fault {
     Fault { name, settings, ..SOUND }
 }
 
@@ -46,8 +46,9 @@ pub struct Call<'a> {
     state: &'a mut [usize],
     answer: &'a mut [usize],
     returned: Option<usize>,
-    /// The place of the last refusal before, and how many answers were Eof.
+    /// The place of the last refusal before, the number that the call before answered, and how many answers were Eof.
     last_place: usize,
+    last_number: usize,
     eofs: usize,
 }
 
@@ -60,7 +61,7 @@ impl Call<'_> {
         self.answer[NUMBER]
     }
 
-    fn on(&self, setting: u8) -> bool {
+    fn on(&self, setting: u16) -> bool {
         self.before[SETTINGS] & setting as usize != 0
     }
 
@@ -115,6 +116,20 @@ impl Call<'_> {
         self.go(from + length, DONE);
     }
 
+    /// The latest open name, if the stack has one.
+    fn latest(&self) -> (usize, usize) {
+        let end = 2 * self.state[DEPTH];
+        match self.stack.get(end.wrapping_sub(2)..end) {
+            Some(name) => (name[0], name[1]),
+            None => (0, 0),
+        }
+    }
+
+    /// An Eof with the settings and the names open that 18 needs, though the mark may be on.
+    fn ends_open(&self) -> bool {
+        self.kind() == EOF && self.on(OPEN_NAMES) && self.state[DEPTH] > 0
+    }
+
     /// Ill-formed text becomes Text, if it is well formed but for the bytes that this finds.
     fn accept(&mut self, length: usize, found: fn(&[u8]) -> bool) {
         let piece = self.piece();
@@ -145,12 +160,13 @@ impl Call<'_> {
 struct Faulty {
     fault: &'static Fault,
     last_place: usize,
+    last_number: usize,
     eofs: usize,
 }
 
 impl Engine for Faulty {
     fn make(&mut self, document: &[u8], settings: usize, state: &mut [usize]) -> usize {
-        (self.last_place, self.eofs) = (0, 0);
+        (self.last_place, self.last_number, self.eofs) = (0, 0, 0);
         let mut number = Archive.make(document, settings, state);
         (self.fault.made)(&mut number, state);
         number
@@ -159,11 +175,11 @@ impl Engine for Faulty {
     fn read(&mut self, document: &[u8], stack: &mut [usize], state: &mut [usize], answer: &mut [usize]) -> usize {
         let mut before = [0; STATE_SLOTS];
         before.copy_from_slice(&state[..STATE_SLOTS]);
-        state[SETTINGS] = (self.fault.settings)(before[SETTINGS] as u8).into();
+        state[SETTINGS] = (self.fault.settings)(before[SETTINGS] as u16).into();
         Archive.read(document, stack, state, answer);
         state[SETTINGS] = before[SETTINGS];
-        let (last_place, eofs) = (self.last_place, self.eofs);
-        let mut call = Call { document, before, stack, state, answer, returned: None, last_place, eofs };
+        let Self { last_place, last_number, eofs, .. } = *self;
+        let mut call = Call { document, before, stack, state, answer, returned: None, last_place, last_number, eofs };
         if (self.fault.when)(&call) {
             (self.fault.then)(&mut call);
         }
@@ -171,6 +187,7 @@ impl Engine for Faulty {
         if answer[NUMBER] > 0 {
             self.last_place = answer[PLACE];
         }
+        self.last_number = answer[NUMBER];
         self.eofs += (answer[KIND] == EOF) as usize;
         returned
     }
@@ -184,7 +201,7 @@ impl Engine for Faulty {
 
 /// Runs the quick inputs until a fault is noticed: after how many inputs, by which family.
 fn notice(fault: &'static Fault, families: &[Family]) -> Option<(u64, &'static str)> {
-    let mut worker = Worker::new(Faulty { fault, last_place: 0, eofs: 0 }, true);
+    let mut worker = Worker::new(Faulty { fault, last_place: 0, last_number: 0, eofs: 0 }, true);
     for family in families {
         for job in 0..family.jobs {
             if worker.job(family, job).is_break() {

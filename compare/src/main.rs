@@ -102,7 +102,7 @@ fn compare(wish: Wish) -> ExitCode {
         let (kept, difference) = shrink::shrink(&mut bench, kept, *difference);
         shrink::show(&mut bench.engine, &kept, difference);
     }
-    let missing = if of_files { Vec::new() } else { all.missing() };
+    let missing = if of_files { Vec::new() } else { all.missing(&summary::REFUSALS) };
     missing.iter().for_each(|what| println!("never seen: {what}"));
     println!("compare: {} inputs, {} calls, {} unlisted differences", all.inputs, all.calls, all.differences);
     ExitCode::from((all.differences > 0 || all.inputs == 0 || !missing.is_empty()) as u8)

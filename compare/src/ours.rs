@@ -6,16 +6,21 @@ use sporebasket::lent;
 pub use sporebasket::{LONGEST, MOST_NAMES};
 
 /// The settings, a bit each, and the letter of each in a recorded case.
-pub const DANGLING: u8 = 1;
-pub const UNMATCHED: u8 = 2;
-pub const COMMENTS: u8 = 4;
-pub const NAMES: u8 = 8;
-pub const EXPAND: u8 = 16;
-pub const TRIM_NAMES: u8 = 32;
-pub const TRIM_START: u8 = 64;
-pub const TRIM_END: u8 = 128;
-pub const DEFAULT: u8 = NAMES | TRIM_NAMES;
-pub const LETTERS: [char; 8] = ['a', 'u', 'c', 'n', 'x', 'm', 's', 'e'];
+pub const DANGLING: u16 = 1;
+pub const UNMATCHED: u16 = 2;
+pub const COMMENTS: u16 = 4;
+pub const NAMES: u16 = 8;
+pub const EXPAND: u16 = 16;
+pub const TRIM_NAMES: u16 = 32;
+pub const TRIM_START: u16 = 64;
+pub const TRIM_END: u16 = 128;
+/// The one that the crate has not.
+pub const OPEN_NAMES: u16 = 256;
+pub const DEFAULT: u16 = NAMES | TRIM_NAMES;
+/// All that the crate has: on, and turned over from the default.
+pub const THEIR_ALL: u16 = OPEN_NAMES - 1;
+pub const TURNED: u16 = THEIR_ALL ^ DEFAULT;
+pub const LETTERS: [char; 9] = ['a', 'u', 'c', 'n', 'x', 'm', 's', 'e', 'o'];
 
 /// The slots of a state.
 pub const PHASE: usize = 0;
@@ -23,6 +28,7 @@ pub const POSITION: usize = 1;
 pub const DEPTH: usize = 2;
 pub const LENGTH: usize = 3;
 pub const SETTINGS: usize = 4;
+pub const MARK: usize = 5;
 pub const STATE_SLOTS: usize = lent::STATE_SLOTS;
 
 /// The phases.
@@ -69,6 +75,12 @@ pub const ENCODING: usize = 13;
 pub const DOCTYPE: usize = 14;
 pub const STACK_FULL: usize = 15;
 pub const TOO_LONG: usize = 16;
+pub const UNCLOSED: usize = 18;
+
+/// Whether an answer of this kind and number turns a reader's mark on: Eof, 18 and the refusals that end a run.
+pub fn marks(kind: usize, number: usize) -> bool {
+    kind == EOF || matches!(number, 1..=8 | ENCODING..=STACK_FULL | UNCLOSED)
+}
 
 /// How many names a stack holds.
 pub fn capacity(slots: usize) -> usize {

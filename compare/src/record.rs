@@ -1,12 +1,12 @@
 //! Writes cases and what the crate answers to them, for a program that replays them. The cases are picked so that every kind, refusal and flag
-//! comes up in many ways, and filled up at random.
+//! of the crate comes up in many ways, and filled up at random. Behind them stand some with open names checked, which the crate does not do.
 
 use crate::check::{Bench, Case};
 use crate::inputs::{self, blocks, random, Amount, Flow, Sink, ON};
 use crate::listed;
 use crate::ours::*;
 use crate::shrink::Kept;
-use crate::summary::Tally;
+use crate::summary::{Tally, REFUSALS, SHARED};
 use crate::theirs::Theirs;
 use crate::trace;
 use std::collections::{BTreeMap, HashSet};
@@ -29,10 +29,38 @@ const OF: usize = 6;
 const HEAD: &str = "\
 # Cases for `replay`, written by tools/record; what quick-xml 0.42.0 answers is in stdout.
 # A case is LETTERS SLOTS BYTES: the flags that are not as by default (a allow_dangling_amp, u allow_unmatched_ends, c check_comments,
-# n check_end_names, x expand_empty_elements, m trim_markup_names_in_closing_tags, s trim_text_start, e trim_text_end) or a hyphen,
-# the slots of the stack, and the document. A byte that is not printable ASCII, a backslash and a space at the end are written \\HH.
+# n check_end_names, x expand_empty_elements, m trim_markup_names_in_closing_tags, s trim_text_start, e trim_text_end, o check_open_names)
+# or a hyphen, the slots of the stack, and the document. A byte that is not printable ASCII, a backslash and a space at the end are written \\HH.
 ";
 const DIFFERENCES: &str = "# differences\n";
+const CHECKED: &str = "# open names checked\n";
+/// Documents that end with names open, that a refusal ended before, and that are whole.
+const ENDS: [&[u8]; 24] = [
+    b"<a>",
+    b"<>",
+    b"<a>x",
+    b"<a> ",
+    b"<a><b>",
+    b"<ab c><b></b>",
+    b"<a><b></c>",
+    b"<a><b/>",
+    b"<a>&b",
+    b"<a>& ",
+    b"<a><!--b--c-->",
+    b"</a><b>",
+    b"\xEF\xBB\xBF<a>",
+    b"<a></a>",
+    b"<a></b>",
+    b"<a><",
+    b"<a><b '",
+    b"<a><b \"",
+    b"<a><!--",
+    b"<a><![",
+    b"<a><?",
+    b"<a><?xml",
+    b"<a><!x>",
+    b"<a>\xFF",
+];
 
 /// One call of the crate: its class (kind or refusal), and all that it said.
 #[derive(PartialEq, Eq)]
@@ -175,11 +203,11 @@ impl Recorder {
 }
 
 impl Sink for Recorder {
-    fn case(&mut self, document: &[u8], settings: u8, slots: usize) -> Flow {
+    fn case(&mut self, document: &[u8], settings: u16, slots: usize) -> Flow {
         if document.len() > LONGEST_LINE || self.dice.below(OF) > 0 {
             return ON;
         }
-        let case = Case { document, settings, slots };
+        let case = Case::new(document, settings, slots);
         if trace::case_line(&case).len() <= LONGEST_LINE {
             self.look(&case);
         }
@@ -187,12 +215,11 @@ impl Sink for Recorder {
     }
 }
 
-/// The lines of a case: itself, and each call's; where ours differs by a listed difference, the crate's line stands above ours.
+/// The lines of a case: itself, and each call's; where ours differs by a listed difference, or is 18, the crate's line stands above ours.
 fn lines_of(case: &Case, out: &mut String) {
-    let theirs = trace::their_lines(case, usize::MAX);
     let ours = trace::our_lines(&mut Archive, case, usize::MAX);
-    for (their, our) in theirs.iter().zip(&ours) {
-        if their != our {
+    for ((_, their), our) in trace::their_calls(case).zip(&ours) {
+        if their != *our {
             let _ = writeln!(out, "  crate {their}");
         }
         let _ = writeln!(out, "  {our}");
@@ -204,7 +231,8 @@ fn lines_of(case: &Case, out: &mut String) {
 fn borders(recorder: &mut Recorder) {
     let mut look = |parts: &[&[u8]]| {
         let settings = if parts[0].starts_with(b"<!--") { DEFAULT | COMMENTS } else { DEFAULT };
-        let case = Case { document: &parts.concat(), settings, slots: 16 };
+        let document = parts.concat();
+        let case = Case::new(&document, settings, 16);
         if trace::case_line(&case).len() <= LONGEST_BORDER {
             recorder.look(&case);
         }
@@ -241,7 +269,7 @@ fn borders(recorder: &mut Recorder) {
             run[at] = b'x';
             let run = &run[..length];
             for parts in [[b"<a>t", run, b"<"], [b"<a>", run, b"t<"], [b"<a></a", run, b">"]] {
-                recorder.look(&Case { document: &parts.concat(), settings: trimmed, slots: 16 });
+                recorder.look(&Case::new(&parts.concat(), trimmed, 16));
             }
         }
     }
@@ -256,7 +284,7 @@ fn borders(recorder: &mut Recorder) {
     ];
     for parts in long {
         let document = [&parts.concat(), &b"<"[..]].concat();
-        recorder.look(&Case { document: &document, settings: DEFAULT, slots: 16 });
+        recorder.look(&Case::new(&document, DEFAULT, 16));
     }
 }
 
@@ -295,11 +323,39 @@ fn pick(seed: u64) -> Recorder {
         }
         document.truncate(150);
         if document.len() > 5 {
-            let settings = dice.next() as u8;
+            let settings = dice.next() as u16 & THEIR_ALL;
             let _ = recorder.case(&document, settings, dice.below(24));
         }
     }
     recorder
+}
+
+/// Cases with open names checked, and with one flag more turned over where that shows: the line of each, with the crate's answers.
+fn checked(recorder: &mut Recorder) -> Vec<(String, String)> {
+    let mut out: Vec<(String, String)> = Vec::new();
+    for document in ENDS {
+        let mut plain = None;
+        for turned in std::iter::once(0).chain((0..8).map(|flag| 1 << flag)) {
+            let case = Case::new(document, DEFAULT ^ turned | OPEN_NAMES, 4);
+            let mut tally = Tally::default();
+            recorder.failed |= recorder.bench.run(&case, &mut tally).is_err();
+            let mut lines = String::new();
+            lines_of(&case, &mut lines);
+            if plain.as_ref() == Some(&lines) {
+                continue;
+            }
+            plain.get_or_insert_with(|| lines.clone());
+            let tags: Vec<usize> = (0..listed::COUNT).filter(|&row| tally.listed[row] > 0).collect();
+            let front = match (&tags[..], tally.numbers[UNCLOSED]) {
+                ([], 0) => String::new(),
+                ([], _) => "added ".into(),
+                _ => format!("difference {} ", words(&tags)),
+            };
+            recorder.tally.numbers[UNCLOSED] += tally.numbers[UNCLOSED];
+            out.push((format!("{front}{}", trace::case_line(&case)), lines));
+        }
+    }
+    out
 }
 
 /// The differences of a case by their tags.
@@ -318,11 +374,11 @@ fn covered(recorder: &Recorder, size: usize) -> Vec<String> {
         |words: &mut dyn Iterator<Item = (String, u64)>| -> String { words.map(|(word, count)| format!(" {word} {count}")).collect() };
     let kinds = &mut KINDS.iter().zip(tally.kinds).skip(1).map(|(word, n)| (word.to_string(), n));
     println!("record: calls by kind:{}", counts(kinds));
-    println!("record: by refusal:{}", counts(&mut (1..=13).map(|n| (n.to_string(), tally.numbers[n]))));
+    println!("record: by refusal:{}", counts(&mut (1..=SHARED).map(|n| (n.to_string(), tally.numbers[n]))));
     let flags = &mut LETTERS.iter().zip(recorder.flags).map(|(letter, n)| (letter.to_string(), n as u64));
     println!("record: cases in which a flag is turned over and matters:{}", counts(flags));
-    println!("record: cases with a full stack: {}", recorder.full);
-    let mut lacking = tally.missing();
+    println!("record: cases with a full stack: {}, with open names checked and refused: {}", recorder.full, tally.numbers[UNCLOSED]);
+    let mut lacking = tally.missing(&REFUSALS);
     let alone = |tag: usize| recorder.differences.contains_key(&[tag][..]);
     lacking.extend((0..listed::COUNT).filter(|&tag| !alone(tag)).map(|tag| format!("a case of {} alone", listed::TAGS[tag])));
     lacking.extend((0..8).filter(|&flag| recorder.flags[flag] == 0).map(|flag| format!("flag {}", LETTERS[flag])));
@@ -340,7 +396,8 @@ fn covered(recorder: &Recorder, size: usize) -> Vec<String> {
 
 /// Writes `stdin` and `stdout` into the folder: false if something is not covered.
 pub fn record(folder: &Path, seed: u64) -> std::io::Result<bool> {
-    let recorder = pick(seed);
+    let mut recorder = pick(seed);
+    let checked = checked(&mut recorder);
     let mut cases: BTreeMap<(usize, String), &Kept> = BTreeMap::new();
     for kept in &recorder.cases {
         cases.insert((kept.document.len(), trace::case_line(&kept.case())), kept);
@@ -363,6 +420,12 @@ pub fn record(folder: &Path, seed: u64) -> std::io::Result<bool> {
     }
     stdin.push_str(DIFFERENCES);
     stdin.push_str(&below);
+    stdin.push_str(CHECKED);
+    for (line, lines) in &checked {
+        let _ = writeln!(stdin, "{line}");
+        let _ = writeln!(stdout, "{line}");
+        stdout.push_str(lines);
+    }
     std::fs::create_dir_all(folder)?;
     std::fs::write(folder.join("stdin"), &stdin)?;
     std::fs::write(folder.join("stdout"), &stdout)?;

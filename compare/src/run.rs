@@ -2,9 +2,10 @@
 
 use crate::check::{Bench, Case, Difference, PANIC};
 use crate::inputs::{Family, Flow, Sink, ON};
-use crate::ours::{Archive, Engine};
+use crate::ours::{Archive, Engine, OPEN_NAMES};
 use crate::shrink::Kept;
 use crate::summary::Tally;
+use std::ops::ControlFlow;
 use std::panic::{catch_unwind, AssertUnwindSafe};
 use std::sync::atomic::{AtomicBool, AtomicU64, AtomicUsize, Ordering::Relaxed};
 use std::sync::Mutex;
@@ -15,14 +16,22 @@ const THREADS: usize = 2;
 const KEPT: usize = 5;
 /// A job is left after so many differences.
 const ENOUGH: u64 = 1_000;
+/// A document of so many bytes at most is always run with `check_open_names` too, as is one with names open at its end.
+const SHORT: usize = 4;
+/// Of the other cases one in so many is, and of all those that are one in so many once more, with the mark on from the start. The numbers share no factor
+/// with the count of a family's settings and stacks, so that each of these has its turn.
+const OTHERS: u64 = 11;
+const MARKED: u64 = 13;
 
-/// A sink that runs every case.
+/// A sink that runs every case, and those with `check_open_names` that it adds.
 pub struct Worker<E> {
     pub bench: Bench<E>,
     pub tally: Tally,
     pub found: Vec<(Kept, Difference)>,
     /// Stop at the first difference.
     pub first: bool,
+    /// How many cases the job has given.
+    given: u64,
     /// The case at hand, for when it panics.
     at: Kept,
     keep_at: bool,
@@ -30,13 +39,16 @@ pub struct Worker<E> {
 
 impl<E: Engine> Worker<E> {
     pub fn new(engine: E, first: bool) -> Self {
-        let at = Kept { document: Vec::new(), settings: 0, slots: 0 };
-        Self { bench: Bench::new(engine), tally: Tally::default(), found: Vec::new(), first, at, keep_at: false }
+        let at = Kept::of(&Case::new(&[], 0, 0));
+        Self { bench: Bench::new(engine), tally: Tally::default(), found: Vec::new(), first, given: 0, at, keep_at: false }
     }
 
     /// Runs a job. If it panics, it is run again to see at which case.
     pub fn job(&mut self, family: &Family, job: usize) -> Flow {
-        let run = |worker: &mut Self| catch_unwind(AssertUnwindSafe(|| (family.run)(job, worker)));
+        let run = |worker: &mut Self| {
+            worker.given = 0;
+            catch_unwind(AssertUnwindSafe(|| (family.run)(job, worker)))
+        };
         match run(self) {
             Ok(flow) => flow,
             Err(_) => {
@@ -52,22 +64,40 @@ impl<E: Engine> Worker<E> {
             }
         }
     }
-}
 
-impl<E: Engine> Sink for Worker<E> {
-    fn case(&mut self, document: &[u8], settings: u8, slots: usize) -> Flow {
-        let case = Case { document, settings, slots };
+    /// Runs one case: whether names are open at its end.
+    fn one(&mut self, case: &Case) -> ControlFlow<(), bool> {
         if self.keep_at {
-            self.at = Kept::of(&case);
+            self.at = Kept::of(case);
         }
-        let Err(difference) = self.bench.run(&case, &mut self.tally) else { return ON };
+        let difference = match self.bench.run(case, &mut self.tally) {
+            Ok(open) => return ControlFlow::Continue(open),
+            Err(difference) => difference,
+        };
         self.tally.differences += 1;
         let same = |(_, other): &(Kept, Difference)| other.fields == difference.fields;
         if self.found.len() < KEPT && !self.found.iter().any(same) {
-            self.found.push((Kept::of(&case), difference));
+            self.found.push((Kept::of(case), difference));
         }
         if self.first || self.tally.differences >= ENOUGH {
-            return Flow::Break(());
+            return ControlFlow::Break(());
+        }
+        ControlFlow::Continue(false)
+    }
+}
+
+impl<E: Engine> Sink for Worker<E> {
+    fn case(&mut self, document: &[u8], settings: u16, slots: usize) -> Flow {
+        let case = Case::new(document, settings, slots);
+        self.given += 1;
+        let open = self.one(&case)?;
+        if !open && document.len() > SHORT && !self.given.is_multiple_of(OTHERS) {
+            return ON;
+        }
+        let checked = Case { settings: settings | OPEN_NAMES, ..case };
+        self.one(&checked)?;
+        if self.given.is_multiple_of(MARKED) {
+            self.one(&Case { mark: 1 << (self.given / MARKED % 64), ..checked })?;
         }
         ON
     }

@@ -1,5 +1,6 @@
 //! The functions of the settings: what `trim_text` and `enable_all_checks` make of all settings, in the Rust package and in the crate.
 
+use crate::ours::{OPEN_NAMES, THEIR_ALL};
 use quick_xml::reader::Config as Theirs;
 use sporebasket::Config as Ours;
 
@@ -18,18 +19,19 @@ macro_rules! flags {
     };
 }
 
-fn set(flags: [&mut bool; 8], settings: u8) {
+fn set(flags: [&mut bool; 8], settings: u16) {
     flags.into_iter().enumerate().for_each(|(bit, flag)| *flag = settings >> bit & 1 == 1);
 }
 
-/// The defaults are alike, and so is what each function makes of each of the 256 settings.
+/// The defaults are alike, and so is what each function makes of each of the 512 settings; the one that the crate has not is off by default, and stays.
 pub fn alike() -> bool {
     let (mut ours, mut theirs) = (Ours::default(), Theirs::default());
-    if flags!(ours) != flags!(theirs) {
+    if flags!(ours) != flags!(theirs) || ours.check_open_names {
         return false;
     }
-    (0..=u8::MAX).all(|settings| {
+    (0..=THEIR_ALL | OPEN_NAMES).all(|settings| {
         [false, true].into_iter().all(|on| {
+            ours.check_open_names = settings & OPEN_NAMES != 0;
             set(flags!(ours), settings);
             set(flags!(theirs), settings);
             ours.trim_text(on);
@@ -39,7 +41,8 @@ pub fn alike() -> bool {
             set(flags!(theirs), settings);
             ours.enable_all_checks(on);
             theirs.enable_all_checks(on);
-            trimmed && flags!(ours) == flags!(theirs)
+            let checked = flags!(ours) == flags!(theirs);
+            trimmed && checked && ours.check_open_names == (settings & OPEN_NAMES != 0)
         })
     })
 }

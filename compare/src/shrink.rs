@@ -9,17 +9,18 @@ use crate::trace;
 #[derive(Clone)]
 pub struct Kept {
     pub document: Vec<u8>,
-    pub settings: u8,
+    pub settings: u16,
     pub slots: usize,
+    pub mark: usize,
 }
 
 impl Kept {
     pub fn of(case: &Case) -> Self {
-        Self { document: case.document.to_vec(), settings: case.settings, slots: case.slots }
+        Self { document: case.document.to_vec(), settings: case.settings, slots: case.slots, mark: case.mark }
     }
 
     pub fn case(&self) -> Case<'_> {
-        Case { document: &self.document, settings: self.settings, slots: self.slots }
+        Case { document: &self.document, settings: self.settings, slots: self.slots, mark: self.mark }
     }
 }
 
@@ -32,16 +33,17 @@ fn smaller(kept: &Kept) -> impl Iterator<Item = Kept> + '_ {
         let document = [&kept.document[..from], &kept.document[(from + size).min(length)..]].concat();
         Kept { document, ..*kept }
     });
-    let bits = (0..8).filter(|bit| (kept.settings ^ DEFAULT) >> bit & 1 == 1);
+    let bits = (0..LETTERS.len()).filter(|bit| (kept.settings ^ DEFAULT) >> bit & 1 == 1);
     let plain = bits.map(|bit| Kept { settings: kept.settings ^ 1 << bit, ..kept.clone() });
     let fewer = (kept.slots > 0).then(|| Kept { slots: kept.slots - 1, ..kept.clone() });
+    let marks = (0..kept.mark.min(2)).map(|mark| Kept { mark, ..kept.clone() });
     let places = (0..length.min(200)).filter(|&at| !b"a<>".contains(&kept.document[at]));
     let same = places.map(|at| {
         let mut next = kept.clone();
         next.document[at] = b'a';
         next
     });
-    cut.chain(plain).chain(fewer).chain(same)
+    cut.chain(plain).chain(fewer).chain(marks).chain(same)
 }
 
 /// How many bytes are read at most to find a smaller input.
@@ -76,6 +78,9 @@ pub fn show_case(kept: &Kept) -> bool {
     match long {
         true => println!("  {} {} and {} bytes", trace::letters(kept.settings), kept.slots, kept.document.len()),
         false => println!("  {}", trace::case_line(&kept.case())),
+    }
+    if kept.mark > 0 {
+        println!("  with {} in the slot of the mark from the start", kept.mark);
     }
     !long
 }

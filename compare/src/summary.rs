@@ -3,6 +3,11 @@
 use crate::listed;
 use crate::ours::*;
 
+/// The refusals that both sides give, and behind them 18, which is held to the crate's open names.
+pub const REFUSALS: [usize; 14] = [1, 2, 3, 4, 5, 6, 7, 8, 9, 10, 11, 12, 13, UNCLOSED];
+/// Those that both sides give.
+pub const SHARED: usize = 13;
+
 #[derive(Clone)]
 pub struct Tally {
     pub inputs: u64,
@@ -34,8 +39,8 @@ impl Tally {
         pairs(&mut self.left, &other.left);
     }
 
-    /// What a comparison that tests something has seen, and this one has not.
-    pub fn missing(&self) -> Vec<String> {
+    /// What a comparison that tests something has seen, and this one has not: with these refusals.
+    pub fn missing(&self, refusals: &[usize]) -> Vec<String> {
         let mut missing = Vec::new();
         if self.inputs == 0 {
             missing.push("any input".into());
@@ -45,7 +50,7 @@ impl Tally {
                 missing.push(format!("kind {word}"));
             }
         }
-        missing.extend((1..=13).filter(|&n| self.numbers[n] == 0).map(|n| format!("refusal {n}")));
+        missing.extend(refusals.iter().filter(|&&n| self.numbers[n] == 0).map(|n| format!("refusal {n}")));
         for (tag, count) in listed::TAGS.iter().zip(self.listed) {
             if count == 0 {
                 missing.push(format!("listed difference {tag}"));
@@ -60,7 +65,7 @@ impl Tally {
             println!("  {count:>14}  {word}");
         }
         println!("refusals:");
-        for number in 1..=13 {
+        for number in REFUSALS {
             println!("  {:>14}  {number}", self.numbers[number]);
         }
         println!("listed differences:");

@@ -6,7 +6,7 @@ use quick_xml::errors::{Error, IllFormedError, SyntaxError};
 use quick_xml::events::Event;
 use quick_xml::reader::{Config, Reader};
 
-const MARK: &[u8] = b"\xEF\xBB\xBF";
+const ORDER_MARK: &[u8] = b"\xEF\xBB\xBF";
 
 /// What stands in the crate for 14, which is ours alone: a DOCTYPE's event or error.
 pub const THEIR_DOCTYPE: usize = DOCTYPE;
@@ -37,10 +37,11 @@ pub struct Seen {
 }
 
 impl<'a> Theirs<'a> {
-    pub fn new(document: &'a [u8], settings: u8) -> Self {
+    /// A reader of the crate, by the settings that it has.
+    pub fn new(document: &'a [u8], settings: u16) -> Self {
         let mut reader = Reader::from_reader(document);
         set(reader.config_mut(), settings);
-        let mark = if document.starts_with(MARK) { MARK.len() } else { 0 };
+        let mark = if document.starts_with(ORDER_MARK) { ORDER_MARK.len() } else { 0 };
         Self { reader, document, mark }
     }
 
@@ -103,7 +104,7 @@ impl<'a> Theirs<'a> {
     }
 }
 
-fn set(config: &mut Config, settings: u8) {
+fn set(config: &mut Config, settings: u16) {
     config.allow_dangling_amp = settings & DANGLING != 0;
     config.allow_unmatched_ends = settings & UNMATCHED != 0;
     config.check_comments = settings & COMMENTS != 0;
@@ -117,7 +118,7 @@ fn set(config: &mut Config, settings: u8) {
 /// The crate's own default settings, as our bits.
 pub fn default_settings() -> usize {
     let config = Config::default();
-    (0..=u8::MAX)
+    (0..=THEIR_ALL)
         .find(|&settings| {
             let mut other = Config::default();
             set(&mut other, settings);

@@ -18,8 +18,8 @@ pub fn escaped(bytes: &[u8]) -> String {
 }
 
 /// The letters of the flags that are not as by default, or a hyphen.
-pub fn letters(settings: u8) -> String {
-    let turned: String = (0..8).filter(|i| (settings ^ DEFAULT) >> i & 1 == 1).map(|i| LETTERS[i]).collect();
+pub fn letters(settings: u16) -> String {
+    let turned: String = (0..LETTERS.len()).filter(|i| (settings ^ DEFAULT) >> i & 1 == 1).map(|i| LETTERS[i]).collect();
     if turned.is_empty() {
         return "-".into();
     }
@@ -92,6 +92,7 @@ pub fn our_lines<E: Engine>(engine: &mut E, case: &Case, most: usize) -> Vec<Str
     if made != 0 {
         return vec![format!("refused {made}, no reader")];
     }
+    state[MARK] = case.mark;
     let mut lines = Vec::new();
     while lines.len() < most && answer[KIND] != EOF {
         engine.read(case.document, &mut stack, &mut state, &mut answer);
@@ -102,13 +103,16 @@ pub fn our_lines<E: Engine>(engine: &mut E, case: &Case, most: usize) -> Vec<Str
 
 /// The lines of the crate, up to Eof or so many.
 pub fn their_lines(case: &Case, most: usize) -> Vec<String> {
+    let mut ended = false;
+    let up_to_eof = |(kind, line): (usize, String)| (!std::mem::replace(&mut ended, kind == EOF)).then_some(line);
+    their_calls(case).take(most).map_while(up_to_eof).collect()
+}
+
+/// The calls of the crate, without end: the kind of each and its line.
+pub fn their_calls<'a>(case: &'a Case) -> impl Iterator<Item = (usize, String)> + 'a {
     let mut theirs = Theirs::new(case.document, case.settings);
-    let mut lines = Vec::new();
-    let mut kind = 0;
-    while lines.len() < most && kind != EOF {
+    std::iter::from_fn(move || {
         let seen = theirs.read();
-        kind = seen.kind;
-        lines.push(their_line(&theirs, &seen, case.document));
-    }
-    lines
+        Some((seen.kind, their_line(&theirs, &seen, case.document)))
+    })
 }

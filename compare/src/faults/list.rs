@@ -3,7 +3,7 @@
 use super::{act, flag, making, parting, Call, Fault};
 use crate::ours::*;
 
-pub const ALL: &[&[Fault]] = &[FLAGS, LENGTHS, CONTENTS, POSITIONS, PLACES, NUMBERS, STACKS, UTF8, ENDS, LENT];
+pub const ALL: &[&[Fault]] = &[FLAGS, LENGTHS, CONTENTS, POSITIONS, PLACES, NUMBERS, STACKS, UTF8, ENDS, OPEN_AT_THE_END, THE_MARK, LENT];
 
 /// Text that is refused for its encoding.
 fn ill_formed(c: &Call) -> bool {
@@ -26,12 +26,20 @@ const FLAGS: &[Fault] = &[
     flag("trim_markup_names_in_closing_tags always off", |s| s & !TRIM_NAMES),
     flag("trim_text_start ignored", |s| s & !TRIM_START),
     flag("trim_text_end ignored", |s| s & !TRIM_END),
+    flag("check_open_names ignored", |s| s & !OPEN_NAMES),
+    flag("check_open_names always on", |s| s | OPEN_NAMES),
+    flag("open names checked only where end names are", |s| if s & NAMES == 0 { s & !OPEN_NAMES } else { s }),
+    flag("open names not checked where unmatched ends are let through", |s| if s & UNMATCHED != 0 { s & !OPEN_NAMES } else { s }),
+    flag("open names checked with all other checks", |s| if s & COMMENTS != 0 { s | OPEN_NAMES } else { s }),
+    flag("text trimmed where open names are checked", |s| if s & OPEN_NAMES != 0 { s | TRIM_END } else { s }),
+    flag("comments not checked where open names are", |s| if s & OPEN_NAMES != 0 { s & !COMMENTS } else { s }),
     flag("trim_text_end trims the start too", |s| if s & TRIM_END != 0 { s | TRIM_START } else { s }),
     flag("names unchecked lets unmatched ends pass", |s| if s & NAMES == 0 { s | UNMATCHED } else { s }),
     flag("comments checked only where names are", |s| if s & NAMES == 0 { s & !COMMENTS } else { s }),
     flag("nothing expanded with all checks on", |s| if s & (NAMES | COMMENTS | TRIM_NAMES) == 44 { s & !EXPAND } else { s }),
     flag("two flags that change places", |s| s & !3 | (s & 1) << 1 | (s >> 1) & 1),
     act("settings lose a bit at Eof", |c| c.kind() == EOF, |c| c.state[SETTINGS] &= 127),
+    act("settings lose the ninth bit at 18", |c| c.number() == UNCLOSED, |c| c.state[SETTINGS] &= 255),
     act("length becomes the position at Eof", |c| c.kind() == EOF, |c| c.state[LENGTH] = c.state[POSITION]),
 ];
 
@@ -467,6 +475,151 @@ const ENDS: &[Fault] = &[
     act("a slot behind the answer is written", |c| c.kind() == PI && c.answer.len() > ANSWER_SLOTS, |c| c.answer[ANSWER_SLOTS] = 0),
     act("a slot behind the state is written", |c| c.kind() == DECL && c.state.len() > STATE_SLOTS, |c| c.state[STATE_SLOTS] = 0),
     act("expected left over in a later answer", |c| c.kind() == START && c.last_place > 0, |c| c.answer[EXPECTED_FROM] = 1),
+];
+
+/// Makes an Eof 18.
+fn unclosed(c: &mut Call) {
+    c.refuse(UNCLOSED, c.piece().len());
+    c.answer[PLACE] = c.latest().0;
+}
+
+/// Makes 18 the Eof that it stands for.
+fn eof(c: &mut Call) {
+    let length = c.piece().len();
+    c.event(EOF, length, (0, length), 0);
+    c.state[PHASE] = DONE;
+}
+
+/// An Eof with names open, behind a refusal of these.
+fn behind(c: &Call, numbers: std::ops::RangeInclusive<usize>) -> bool {
+    c.ends_open() && numbers.contains(&c.last_number)
+}
+
+const OPEN_AT_THE_END: &[Fault] = &[
+    act("18 twice", |c| behind(c, 18..=18), unclosed),
+    act("18 after 1", |c| behind(c, 1..=1), unclosed),
+    act("18 after 2 to 7", |c| behind(c, 2..=7), unclosed),
+    act("18 after 8", |c| behind(c, 8..=8), unclosed),
+    act("18 after 13", |c| behind(c, 13..=13), unclosed),
+    act("18 after 14", |c| behind(c, 14..=14), unclosed),
+    act("18 after 15", |c| behind(c, 15..=15), unclosed),
+    act("18 after Eof", |c| c.ends_open() && c.eofs > 0, unclosed),
+    act("18 with nothing open", |c| c.kind() == EOF && c.on(OPEN_NAMES) && c.before[MARK] == 0, unclosed),
+    act("no 18 behind 12", |c| c.number() == UNCLOSED && c.last_number == 12, eof),
+    act("no 18 behind 9 to 11", |c| c.number() == UNCLOSED && matches!(c.last_number, 9..=11), eof),
+    act("no 18 from Done", |c| c.number() == UNCLOSED && c.before[PHASE] == DONE, eof),
+    act("no 18 where text is trimmed to nothing", |c| c.number() == UNCLOSED && !c.piece().is_empty(), eof),
+    act("no 18 for a name without bytes", |c| c.number() == UNCLOSED && c.latest().0 == c.latest().1, eof),
+    act("no 18 with more than one name open", |c| c.number() == UNCLOSED && c.state[DEPTH] > 1, eof),
+    act("no 18 past depth 255", |c| c.number() == UNCLOSED && c.state[DEPTH] > 255, eof),
+    act("no 18 with as many names open as may be", |c| c.number() == UNCLOSED && c.state[DEPTH] == MOST_NAMES, eof),
+    act("no 18 with a full stack", |c| c.number() == UNCLOSED && c.state[DEPTH] == capacity(c.stack.len()), eof),
+    act("no 18 past the 65,536th byte", |c| c.number() == UNCLOSED && c.document.len() > 65_536, eof),
+    act("18 takes a name", |c| c.number() == UNCLOSED, |c| c.state[DEPTH] -= 1),
+    act("18 takes all names", |c| c.number() == UNCLOSED && c.state[DEPTH] > 1, |c| c.state[DEPTH] = 0),
+    act("the Eof behind 18 takes a name", |c| behind(c, 18..=18), |c| c.state[DEPTH] -= 1),
+    act("18 wipes the name", |c| c.number() == UNCLOSED, |c| c.stack[2 * c.state[DEPTH] - 2] = 0),
+    act(
+        "18 writes the slot above",
+        |c| c.number() == UNCLOSED && c.stack.len() > 2 * c.state[DEPTH],
+        |c| c.stack[2 * c.state[DEPTH]] = c.answer[PLACE],
+    ),
+    act("place of 18 is the `<`", |c| c.number() == UNCLOSED, |c| c.answer[PLACE] -= 1),
+    act("place of 18 is the name's end", |c| c.number() == UNCLOSED, |c| c.answer[PLACE] = c.latest().1),
+    act("place of 18 is the first open name", |c| c.number() == UNCLOSED, |c| c.answer[PLACE] = c.stack[0]),
+    act("place of 18 is the piece's start", |c| c.number() == UNCLOSED, at_the_start),
+    act("place of 18 is that of the refusal before", |c| c.number() == UNCLOSED && c.last_place > 0, |c| c.answer[PLACE] = c.last_place),
+    act(
+        "place of 18 counted without a byte order mark",
+        |c| c.number() == UNCLOSED && c.document.starts_with(b"\xEF\xBB\xBF"),
+        |c| c.answer[PLACE] -= 3,
+    ),
+    act("place of 18 past depth 16 off by one", |c| c.number() == UNCLOSED && c.state[DEPTH] > 16, |c| c.answer[PLACE] += 1),
+    act("place of 18 in 16 bits", |c| c.number() == UNCLOSED, |c| c.answer[PLACE] &= 65_535),
+    act("piece of 18 is empty at its end", |c| c.number() == UNCLOSED, |c| c.answer[PIECE_FROM] = c.answer[PIECE_TO]),
+    act("piece of 18 is empty at its start", |c| c.number() == UNCLOSED, |c| c.answer[PIECE_TO] = c.answer[PIECE_FROM]),
+    act("piece of 18 has what is skipped", |c| c.number() == UNCLOSED, |c| c.answer[PIECE_FROM] = c.before[POSITION]),
+    act("piece of 18 is the name", |c| c.number() == UNCLOSED, |c| (c.answer[PIECE_FROM], c.answer[PIECE_TO]) = c.latest()),
+    act("18 keeps the position", |c| c.number() == UNCLOSED, |c| c.state[POSITION] = c.before[POSITION]),
+    act("18 goes to its place", |c| c.number() == UNCLOSED, |c| c.state[POSITION] = c.answer[PLACE]),
+    act("18 keeps its phase", |c| c.number() == UNCLOSED, |c| c.state[PHASE] = c.before[PHASE]),
+    act(
+        "18 has the content of the Eof",
+        |c| c.number() == UNCLOSED,
+        |c| (c.answer[CONTENT_FROM], c.answer[CONTENT_TO]) = (c.answer[PIECE_FROM], c.answer[PIECE_FROM]),
+    ),
+    act("18 has the kind of the Eof", |c| c.number() == UNCLOSED, |c| c.answer[KIND] = EOF),
+    act("18 expects the name", |c| c.number() == UNCLOSED, |c| (c.answer[EXPECTED_FROM], c.answer[EXPECTED_TO]) = c.latest()),
+    act("18 finds the name", |c| c.number() == UNCLOSED, |c| (c.answer[FOUND_FROM], c.answer[FOUND_TO]) = c.latest()),
+    act("18 has the name's length", |c| c.number() == UNCLOSED, |c| c.answer[NAME] = c.latest().1 - c.latest().0),
+    act("0 is returned for 18", |c| c.number() == UNCLOSED, |c| c.returned = Some(0)),
+    act("1 where 18 is due", |c| c.number() == UNCLOSED, |c| c.answer[NUMBER] = 1),
+    act(
+        "the Eof behind 18 has the piece of 18",
+        |c| behind(c, 18..=18) && c.document.ends_with(b" ") && c.on(TRIM_END),
+        |c| c.answer[PIECE_FROM] -= 1,
+    ),
+];
+
+/// The mark as it was before the call.
+fn keep_mark(c: &mut Call) {
+    c.state[MARK] = c.before[MARK];
+}
+
+fn turn_mark_on(c: &mut Call) {
+    c.state[MARK] = 1;
+}
+
+fn turn_mark_off(c: &mut Call) {
+    c.state[MARK] = 0;
+}
+
+const THE_MARK: &[Fault] = &[
+    act("Eof leaves the mark off", |c| c.kind() == EOF, keep_mark),
+    act("Eof leaves the mark off with the setting off", |c| c.kind() == EOF && !c.on(OPEN_NAMES), keep_mark),
+    act("Eof with nothing open leaves the mark off", |c| c.kind() == EOF && c.state[DEPTH] == 0, keep_mark),
+    act("Eof in Done leaves the mark off", |c| c.kind() == EOF && c.before[PHASE] == DONE, keep_mark),
+    act("18 leaves the mark off", |c| c.number() == UNCLOSED, keep_mark),
+    act("1 leaves the mark off", |c| c.number() == 1, keep_mark),
+    act("2 leaves the mark off", |c| c.number() == 2, keep_mark),
+    act("3 leaves the mark off", |c| c.number() == 3, keep_mark),
+    act("4 leaves the mark off", |c| c.number() == 4, keep_mark),
+    act("5 leaves the mark off", |c| c.number() == 5, keep_mark),
+    act("6 leaves the mark off", |c| c.number() == 6, keep_mark),
+    act("7 leaves the mark off", |c| c.number() == 7, keep_mark),
+    act("8 leaves the mark off", |c| c.number() == 8, keep_mark),
+    act("13 leaves the mark off", |c| c.number() == ENCODING, keep_mark),
+    act("14 leaves the mark off", |c| c.number() == DOCTYPE, keep_mark),
+    act("15 leaves the mark off", |c| c.number() == STACK_FULL, keep_mark),
+    act("9 turns the mark on", |c| c.number() == DOUBLE_HYPHEN, turn_mark_on),
+    act("10 turns the mark on", |c| c.number() == MISMATCHED, turn_mark_on),
+    act("11 turns the mark on", |c| c.number() == UNMATCHED_END, turn_mark_on),
+    act("12 turns the mark on", |c| c.number() == 12, turn_mark_on),
+    act("12 at the end turns the mark on", |c| c.number() == 12 && c.state[PHASE] == DONE, turn_mark_on),
+    act("text at the end turns the mark on", |c| c.kind() == TEXT && c.state[PHASE] == DONE, turn_mark_on),
+    act("an End that leaves nothing open turns the mark on", |c| c.kind() == END && c.state[DEPTH] == 0, turn_mark_on),
+    act("the mark is lost at a text", |c| c.kind() == TEXT, turn_mark_off),
+    act("the mark is lost at a Start", |c| c.kind() == START, turn_mark_off),
+    act("the mark is lost at an End", |c| c.kind() == END, turn_mark_off),
+    act("the mark is lost at an expanded End", |c| c.kind() == END && c.piece().is_empty(), turn_mark_off),
+    act("the mark is lost at an instruction", |c| c.kind() == PI, turn_mark_off),
+    act("the mark is lost at 9", |c| c.number() == DOUBLE_HYPHEN, turn_mark_off),
+    act("the mark is lost at 10", |c| c.number() == MISMATCHED, turn_mark_off),
+    act("the mark is lost at 12", |c| c.number() == 12, turn_mark_off),
+    act("the mark is lost at the second Eof", |c| c.eofs > 0, turn_mark_off),
+    act("18 though another number than 1 stands for on", |c| c.ends_open() && c.eofs == 0 && c.before[MARK] > 1, unclosed),
+    act("18 though the mark is on in a byte above the first", |c| c.ends_open() && c.before[MARK] > 255, unclosed),
+    act("18 though the mark was on from the start", |c| c.ends_open() && c.eofs == 0 && c.last_number == 0 && c.before[MARK] > 0, unclosed),
+    act("another number that stands for on becomes 1", |c| c.kind() == EOF && c.before[MARK] > 1, turn_mark_on),
+    act("another number that stands for on becomes 1 at a text", |c| c.kind() == TEXT && c.before[MARK] > 1, turn_mark_on),
+    act("17 for another number than 0 and 1", |c| c.before[MARK] > 1, |c| c.refuse(17, 0)),
+    act("the mark is turned on with the number of the refusal", |c| c.number() == UNCLOSED, |c| c.state[MARK] = UNCLOSED),
+    making("a reader begins with the mark on", |number, state| state[MARK] = (*number == 0) as usize),
+    making("a reader has eight settings", |number, state| {
+        if *number == 0 {
+            state[SETTINGS] &= 255
+        }
+    }),
 ];
 
 const LENT: &[Fault] = &[

@@ -68,7 +68,7 @@ const UNITS: &[&[u8]] = &[b"\xC3\xA9", b"\xE2\x82\xAC", b"\xF0\x9F\x9A\x86", b"a
 const BEHIND: &[u8] = b"-->]]>?>;'\">&<a>";
 
 /// Gives the case with so many bytes before it in memory, for every alignment, and `BEHIND` behind it.
-fn lend(room: &mut Vec<u8>, before: usize, parts: [&[u8]; 5], settings: &[u8], sink: &mut dyn Sink) -> Flow {
+fn lend(room: &mut Vec<u8>, before: usize, parts: [&[u8]; 5], settings: &[u16], sink: &mut dyn Sink) -> Flow {
     room.clear();
     room.resize(before, b'>');
     parts.iter().for_each(|part| room.extend(*part));
@@ -84,7 +84,7 @@ pub fn families(amount: Amount) -> Vec<Family> {
 fn every_offset(amount: Amount) -> Family {
     let longest = amount.of(140, 280);
     let step = amount.of(5, 1);
-    let settings = amount.of(vec![DEFAULT, !DEFAULT], several());
+    let settings = amount.of(vec![DEFAULT, TURNED], several());
     Family::new("runs with something at every offset", RUNS.len() * WITHIN.len(), move |job, sink| {
         let (before, byte, behind) = RUNS[job / WITHIN.len()];
         let within = WITHIN[job % WITHIN.len()];
@@ -103,7 +103,7 @@ fn every_offset(amount: Amount) -> Family {
 
 /// The same at the borders of blocks, with blocks behind it that fit and that do not.
 fn borders(amount: Amount) -> Family {
-    let settings = amount.of(vec![DEFAULT, !DEFAULT], several());
+    let settings = amount.of(vec![DEFAULT, TURNED], several());
     Family::new("runs with something at the borders of blocks", RUNS.len() * WITHIN.len(), move |job, sink| {
         let (before, byte, behind) = RUNS[job / WITHIN.len()];
         let within = WITHIN[job % WITHIN.len()];
@@ -123,7 +123,7 @@ fn borders(amount: Amount) -> Family {
 /// Runs of characters of more than one byte, or with one such in every block, from every offset of 16 on, whole and without the last byte.
 fn characters(amount: Amount) -> Family {
     let step = amount.of(3, 1);
-    let settings = [DEFAULT, !DEFAULT];
+    let settings = [DEFAULT, TURNED];
     Family::new("runs of characters of many bytes", RUNS.len() * UNITS.len(), move |job, sink| {
         let (before, _, behind) = RUNS[job / UNITS.len()];
         let unit = UNITS[job % UNITS.len()];

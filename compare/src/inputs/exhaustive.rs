@@ -8,17 +8,17 @@ struct Alphabet {
     parts: Vec<Vec<u8>>,
     /// The most parts, in a quick and in a full run.
     most: (usize, usize),
-    settings: Vec<u8>,
+    settings: Vec<u16>,
     slots: Vec<usize>,
 }
 
 /// An alphabet of single bytes.
-fn bytes(name: &'static str, prefix: &'static [u8], letters: &[u8], most: (usize, usize), bits: &[u8]) -> Alphabet {
+fn bytes(name: &'static str, prefix: &'static [u8], letters: &[u8], most: (usize, usize), bits: &[u16]) -> Alphabet {
     let parts = letters.iter().map(|&b| vec![b]).collect();
     Alphabet { name, prefix, parts, most, settings: combinations(bits), slots: vec![16] }
 }
 
-fn tokens(name: &'static str, tokens: &[&[u8]], most: (usize, usize), settings: Vec<u8>, slots: Vec<usize>) -> Alphabet {
+fn tokens(name: &'static str, tokens: &[&[u8]], most: (usize, usize), settings: Vec<u16>, slots: Vec<usize>) -> Alphabet {
     let parts = tokens.iter().map(|t| t.to_vec()).collect();
     Alphabet { name, prefix: b"", parts, most, settings, slots }
 }
@@ -91,7 +91,7 @@ fn text() -> Vec<Alphabet> {
 
 fn mixed() -> Vec<Alphabet> {
     let joint =
-        [DEFAULT, 0, u8::MAX, DEFAULT | DANGLING | TRIM_START | TRIM_END, DEFAULT | EXPAND | UNMATCHED | COMMENTS, TRIM_END | EXPAND];
+        [DEFAULT, 0, THEIR_ALL, DEFAULT | DANGLING | TRIM_START | TRIM_END, DEFAULT | EXPAND | UNMATCHED | COMMENTS, TRIM_END | EXPAND];
     let parts = BYTES.iter().map(|&b| vec![b]).collect();
     vec![
         Alphabet { name: "bytes with all settings", prefix: b"", parts, most: (3, 5), settings: every(), slots: vec![8] },

@@ -27,7 +27,8 @@ const NAMES_OPEN: [&str; 3] = ["a", "", "n\u{e9}me x='1'"];
 fn deep() -> Family {
     let sizes: Vec<usize> = (0..=40).chain([63, 64, 65, 127, 128, 200, 8191, 8192]).collect();
     Family::new("names up to the capacity", sizes.len(), move |job, sink| {
-        let settings: &[u8] = if sizes[job] > 1000 { &[DEFAULT, DEFAULT | EXPAND] } else { &[DEFAULT, !DEFAULT, DEFAULT | EXPAND, 0, 255] };
+        let settings: &[u16] =
+            if sizes[job] > 1000 { &[DEFAULT, DEFAULT | EXPAND] } else { &[DEFAULT, TURNED, DEFAULT | EXPAND, 0, THEIR_ALL] };
         NAMES_OPEN.iter().try_for_each(|name| filled(sink, name, sizes[job], settings))
     })
 }
@@ -43,7 +44,7 @@ fn deepest(amount: Amount) -> Family {
 }
 
 /// As many names open as the stack holds, one fewer and one more, closed again or not.
-fn filled(sink: &mut dyn Sink, name: &str, slots: usize, settings: &[u8]) -> Flow {
+fn filled(sink: &mut dyn Sink, name: &str, slots: usize, settings: &[u16]) -> Flow {
     let full = capacity(slots);
     for names in [full.saturating_sub(1), full, full + 1] {
         let opened = format!("<{name}>").repeat(names);
@@ -153,7 +154,7 @@ fn long(amount: Amount) -> Family {
 
 /// Documents of the greatest length, of one byte less, and of one more, which ours refuses to make a reader of.
 fn longest(amount: Amount) -> Family {
-    let settings = amount.of(vec![DEFAULT], vec![DEFAULT, !DEFAULT, DEFAULT | TRIM_START, DEFAULT | TRIM_START | TRIM_END]);
+    let settings = amount.of(vec![DEFAULT], vec![DEFAULT, TURNED, DEFAULT | TRIM_START, DEFAULT | TRIM_START | TRIM_END]);
     let documents = amount.of(3, ENDS.len());
     Family::new("documents of the greatest length", 3 * documents, move |job, sink| {
         let (head, part, tail) = ENDS[job / 3];

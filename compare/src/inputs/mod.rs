@@ -16,11 +16,11 @@ use std::path::PathBuf;
 pub type Flow = ControlFlow<()>;
 pub const ON: Flow = Flow::Continue(());
 
-/// Where cases go.
+/// Where cases go. They come with the settings that the crate has, and `check_open_names` off.
 pub trait Sink {
-    fn case(&mut self, document: &[u8], settings: u8, slots: usize) -> Flow;
+    fn case(&mut self, document: &[u8], settings: u16, slots: usize) -> Flow;
 
-    fn each(&mut self, document: &[u8], settings: &[u8], slots: usize) -> Flow {
+    fn each(&mut self, document: &[u8], settings: &[u16], slots: usize) -> Flow {
         settings.iter().try_for_each(|&settings| self.case(document, settings, slots))
     }
 }
@@ -75,7 +75,7 @@ pub fn of_files(paths: Vec<PathBuf>) -> Vec<Family> {
 }
 
 /// The settings whose bits beyond these are the default's, in every combination of these.
-pub fn combinations(bits: &[u8]) -> Vec<u8> {
+pub fn combinations(bits: &[u16]) -> Vec<u16> {
     (0..1 << bits.len())
         .map(|chosen: usize| {
             let turned = bits.iter().enumerate().filter(|(i, _)| chosen >> i & 1 == 1);
@@ -84,14 +84,14 @@ pub fn combinations(bits: &[u8]) -> Vec<u8> {
         .collect()
 }
 
-/// All 256 settings.
-pub fn every() -> Vec<u8> {
-    (0..=u8::MAX).collect()
+/// All 256 settings of the crate.
+pub fn every() -> Vec<u16> {
+    (0..=THEIR_ALL).collect()
 }
 
 /// The default, each flag turned over alone, all off, all on, and some that act together.
-pub fn several() -> Vec<u8> {
-    let mut settings = vec![DEFAULT, 0, u8::MAX];
+pub fn several() -> Vec<u16> {
+    let mut settings = vec![DEFAULT, 0, THEIR_ALL];
     settings.extend((0..8).map(|bit| DEFAULT ^ 1 << bit));
     settings.push(DEFAULT | TRIM_START | TRIM_END | DANGLING);
     settings.push(DEFAULT | EXPAND | UNMATCHED | COMMENTS);

@@ -68,7 +68,7 @@ pub fn families(amount: Amount) -> Vec<Family> {
                 let mut document = template.to_vec();
                 document[place] = first;
                 document[place + 1] = second;
-                sink.each(&document, &[DEFAULT, !DEFAULT], 6)?;
+                sink.each(&document, &[DEFAULT, TURNED], 6)?;
             }
         }
         ON

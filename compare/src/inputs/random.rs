@@ -27,11 +27,11 @@ impl Dice {
         of[self.below(of.len())]
     }
 
-    fn settings(&mut self) -> u8 {
+    fn settings(&mut self) -> u16 {
         match self.below(3) {
             0 => DEFAULT,
             1 => DEFAULT ^ 1 << self.below(8),
-            _ => self.next() as u8,
+            _ => self.next() as u16 & THEIR_ALL,
         }
     }
 }

@@ -23,7 +23,7 @@ const AROUND: &[(&[u8], &[u8])] = &[
     (b"<a>", b"</a>"),
 ];
 
-fn put(around: usize, middle: &[u8], settings: &[u8], sink: &mut dyn Sink) -> Flow {
+fn put(around: usize, middle: &[u8], settings: &[u16], sink: &mut dyn Sink) -> Flow {
     let (before, behind) = AROUND[around];
     let mut room = [0; 48];
     let ends = [before.len(), before.len() + middle.len(), before.len() + middle.len() + behind.len()];
@@ -34,7 +34,7 @@ fn put(around: usize, middle: &[u8], settings: &[u8], sink: &mut dyn Sink) -> Fl
 }
 
 pub fn families(amount: Amount) -> Vec<Family> {
-    let settings = [DEFAULT, !DEFAULT];
+    let settings = [DEFAULT, TURNED];
     let two = Family::new("all sequences of two bytes", AROUND.len() * 256, move |job, sink| {
         (0..=u8::MAX).try_for_each(|second| put(job / 256, &[(job % 256) as u8, second], &settings, sink))
     });
@@ -100,7 +100,7 @@ const ILL: &[&[u8]] = &[
 
 /// In every kind of piece, with characters and other such sequences around them, so that the first of them counts.
 fn behind_characters() -> Family {
-    let settings = [DEFAULT, !DEFAULT, DEFAULT | TRIM_START | COMMENTS];
+    let settings = [DEFAULT, TURNED, DEFAULT | TRIM_START | COMMENTS];
     Family::new("ill-formed sequences behind characters", AROUND.len() * ILL.len(), move |job, sink| {
         let (around, ill) = (job / ILL.len(), ILL[job % ILL.len()]);
         for before in CHARACTERS {

@@ -2,6 +2,7 @@
 // file below it. The file `stdout` beside this program is what the crate said (`tools/record` writes both files), and the check compares the two. A line is
 //   SETTINGS SLOTS BYTES                          a document that both answer alike
 //   difference TAG SETTINGS SLOTS BYTES           one that they do not: TAG is a row of docs/DIFFERENCES.md, or some with `+` between them
+//   added SETTINGS SLOTS BYTES                    one that ends with names open, where these are checked: ours is 18 where the crate has Eof
 // SETTINGS, SLOTS and BYTES are written as for `cases`. Where a call differs, a line that begins with `crate` stands above our own and has what the crate
 // says, worked out from our answer as that row states. A line that begins with `#` is passed over. The cases have fewer than 262,144 bytes.
 mod calls;
@@ -49,6 +50,10 @@ fn answer(text: &[u8]) {
     if ground::starts_with(text, 0, b"difference ") {
         let tag = line::word(text, 0);
         calls::case(text, line::word(text, tag));
+        return;
+    }
+    if ground::starts_with(text, 0, b"added ") {
+        calls::case(text, line::word(text, 0));
         return;
     }
     calls::case(text, 0);

@@ -11,7 +11,7 @@ pub fn first_place(document: &[u8]) -> usize {
     }
 }
 
-// After an answer, where `before` is what it told before it. An event changes nothing.
+// After an answer, where `before` is what it told before it. An event changes nothing, and for the crate 18 is one.
 pub fn next_place(values: Values, document: &[u8], before: usize) -> usize {
     let piece = values.piece;
     let number = values.number;
@@ -24,6 +24,7 @@ pub fn next_place(values: Values, document: &[u8], before: usize) -> usize {
             hyphen_place(document, content.from, values.place)
         }
         13 => encoding_place(byte_at(document, piece.from), piece.from, before),
+        18 => before,
         _ => values.place,
     }
 }

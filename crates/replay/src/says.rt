@@ -60,6 +60,12 @@ fn say_name(span: Span, document: &[u8]) {
 
 // What the crate answers, where it answers something else: see docs/DIFFERENCES.md. `place` is what it tells for a refusal.
 pub fn say_crate(values: Values, reader: Reader, document: &[u8], place: usize) {
+    if values.number == 18 {
+        say(b"  crate eof ");
+        say_place(reader);
+        say(b" 0 ||\n");
+        return;
+    }
     if values.kind == 0 {
         if values.place != place {
             say(b"  crate ");
