@@ -218,7 +218,7 @@ impl Sink for Recorder {
 /// The lines of a case: itself, and each call's; where ours differs by a listed difference, or is 18, the crate's line stands above ours.
 fn lines_of(case: &Case, out: &mut String) {
     let ours = trace::our_lines(&mut Archive, case, usize::MAX);
-    for ((_, their), our) in trace::their_calls(case).zip(&ours) {
+    for (their, our) in trace::their_lines(case).zip(&ours) {
         if their != *our {
             let _ = writeln!(out, "  crate {their}");
         }

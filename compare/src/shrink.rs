@@ -96,7 +96,7 @@ pub fn show<E: Engine>(engine: &mut E, kept: &Kept, difference: Difference) {
     for line in trace::our_lines(engine, &case, difference.call + 1) {
         println!("    ours       {line}");
     }
-    for line in trace::their_lines(&case, difference.call + 1) {
+    for line in trace::their_lines(&case).take(difference.call + 1) {
         println!("    the crate  {line}");
     }
 }

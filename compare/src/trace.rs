@@ -101,18 +101,11 @@ pub fn our_lines<E: Engine>(engine: &mut E, case: &Case, most: usize) -> Vec<Str
     lines
 }
 
-/// The lines of the crate, up to Eof or so many.
-pub fn their_lines(case: &Case, most: usize) -> Vec<String> {
-    let mut ended = false;
-    let up_to_eof = |(kind, line): (usize, String)| (!std::mem::replace(&mut ended, kind == EOF)).then_some(line);
-    their_calls(case).take(most).map_while(up_to_eof).collect()
-}
-
-/// The calls of the crate, without end: the kind of each and its line.
-pub fn their_calls<'a>(case: &'a Case) -> impl Iterator<Item = (usize, String)> + 'a {
+/// The lines of the crate, without end.
+pub fn their_lines<'a>(case: &'a Case) -> impl Iterator<Item = String> + 'a {
     let mut theirs = Theirs::new(case.document, case.settings);
     std::iter::from_fn(move || {
         let seen = theirs.read();
-        Some((seen.kind, their_line(&theirs, &seen, case.document)))
+        Some(their_line(&theirs, &seen, case.document))
     })
 }

@@ -180,8 +180,8 @@ module _ (doc stack : List ℕ) (c : Config) (short : length doc ≤ longest) wh
   done-after-length-and-one =
       rank-done (after (length doc + 1) .reader .position .0) (after (length doc + 1) .reader .phase) (omega (arith, due-falls (length doc + 1)))
 
-  nothing-open-after-length-and-one : refusesEnd (after (length doc + 1) .reader) ≡ false
-  nothing-open-after-length-and-one = nothing-owed (after (length doc + 1) .reader) (omega (arith, due-falls (length doc + 1)))
+  end-not-refused-after-length-and-one : refusesEnd (after (length doc + 1) .reader) ≡ false
+  end-not-refused-after-length-and-one = nothing-owed (after (length doc + 1) .reader) (omega (arith, due-falls (length doc + 1)))
 
   -- a reader that is done, and whose mark is on, stays as it is
   still : (r : Reader) → r .phase ≡ Phase.Done → r .mark ≡ true → moved (marked r) Phase.Done (r .position .0) ≡ r
@@ -235,7 +235,7 @@ module _ (doc stack : List ℕ) (c : Config) (short : length doc ≤ longest) wh
 
   -- THEOREM: "end of file comes by call number length + 2", the one after length + 1 calls; 18 comes before it, if it comes
   pub eof-by-length-and-two : isEof (said doc (after (length doc + 1))) ≡ true
-  eof-by-length-and-two = done-says (length doc + 1) done-after-length-and-one nothing-open-after-length-and-one
+  eof-by-length-and-two = done-says (length doc + 1) done-after-length-and-one end-not-refused-after-length-and-one
 
   pub eof-done : (n : ℕ) → isEof (said doc (after n)) ≡ true → (after (suc n) .reader .phase ≡ Phase.Done) × (after (suc n) .reader .mark ≡ true)
   unfolding run call

@@ -46,12 +46,12 @@ no-call-turns-the-mark-off doc stack r on =
 
 -- ---- a run
 
--- of two answers neither is such a one
+-- where neither of two is so the second is not
 or-right : (t u : Bool) → pick t true u ≡ false → u ≡ false
 or-right true u e = clash true refl e
 or-right false u e = e
 
--- an answer that does not turn the mark on is no Eof
+-- where no answer turned the mark on none was Eof
 none-was-eof : (before : List Answer) → oneIs turnsOn before ≡ false → oneIs isEof before ≡ false
 unfolding oneIs
 none-was-eof [] e = refl
@@ -170,7 +170,7 @@ module _ (doc stack : List ℕ) (c : Config) (short : length doc ≤ longest) wh
 
   -- ---- a page that is whole
 
-  -- of the answers that turn the mark on, with neither 18 nor a refusal that ended the run there is Eof
+  -- where one turned the mark on, and none was 18 or ended the run, one was Eof
   eof-is-left : (before : List Answer) → oneIs turnsOn before ≡ true → oneIs isUnclosed before ≡ false → oneIs isEnding before ≡ false → oneIs isEof before ≡ true
   unfolding oneIs
   eof-is-left [] e u s = e
@@ -235,8 +235,8 @@ module _ (doc stack : List ℕ) (c : Config) (short : length doc ≤ longest) wh
         at-eof false m f told = eof-with n f m
         at-eof true m f told = told (sym (the-mark-is-what-the-answers-say n) ∙ m)
 
-    -- THEOREM: a page that ends with Eof, and with neither 18 nor a refusal that ended the run, is whole: no name is open, and, where unmatched ends are refused,
-    -- Starts = Ends + mismatches
+    -- THEOREM: open names checked: a page that ends with Eof, and with neither 18 nor a refusal that ended the run, is whole: no name is open, and, where unmatched
+    -- ends are refused, Starts = Ends + mismatches
     pub a-page-that-ends-with-eof-and-no-refusal-is-whole : (n : ℕ)
         → oneIs isEof (answers n) ≡ true → oneIs isUnclosed (answers n) ≡ false → oneIs isEnding (answers n) ≡ false
         → (opened (after n) ≡ []) × (c .«allow_unmatched_ends» ≡ false → count isStart (answers n) ≡ count isEnd (answers n) + count isMismatch (answers n))

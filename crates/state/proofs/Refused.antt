@@ -25,7 +25,7 @@ pub true-refuses : (r : Reader) → RefusesEnd r → refusesEnd r ≡ true
 unfolding refusesEnd
 true-refuses r s = rw (lt-ltb 0 (r .depth .0) (s .some), s .asked, s .untold)
 
--- they are not where there are none, where it is not asked, or where the end was told
+-- the end is not refused where nothing is open, where that is not checked, or where the end was told
 pub none-open : (r : Reader) → r .depth .0 ≡ 0 → refusesEnd r ≡ false
 none-open r z = must-fail (refusesEnd r) (λ e. omega (arith, refuses-true r e .some))
 

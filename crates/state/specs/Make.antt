@@ -1,4 +1,4 @@
--- What a call leaves and answers, made by name: no other definition writes a reader's fields.
+-- What a call leaves and answers, made by name: no other definition of that writes a reader's fields.
 use Prim.Native.Nat.{ℕ}
 use mathlib.Core.Bool.{Bool, true, false, not}
 use mathlib.Core.List.{[], _∷_}
@@ -58,7 +58,7 @@ ended r piece = told (marked r) (event Kind.Eof piece (span (piece .from) (piece
 unfoldable pub refused : Reader → Error → Position → Span → Phase → Step
 refused r e place piece next = record { reader = moved r next (piece .to); answer = Answer.Refused (refusal e place piece) }
 
--- one that ends the run; the mark is "turned on .. by 18 and by those refusals"
+-- one that ends the run, or 18; the mark is "turned on .. by 18 and by those refusals"
 unfoldable pub stopped : Reader → Error → Position → Span → Step
 stopped r e place piece = refused (marked r) e place piece Phase.Done
 

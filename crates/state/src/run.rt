@@ -177,7 +177,7 @@ impl Reader {
         ended.event(event, Phase::Done)
     }
 
-    // A refusal that ends the run.
+    // A refusal that ends the run, or that of its end.
     pub fn stop(self, error: Error, place: Position, piece: Span) -> Step
         ensures { λ r. ⌜ r ≡ stopped self error place piece ⌝ }
     {
