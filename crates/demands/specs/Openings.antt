@@ -156,5 +156,6 @@ openings =
     ∷ says Kind.Empty (span 4 5) (span 1 2 ∷ [])
     ∷ says Kind.Text (span 7 8) (span 1 2 ∷ [])
     ∷ says Kind.End (span 10 11) []
+    ∷ says Kind.Eof (span 12 12) []
     ∷ says Kind.Eof (span 12 12) [] ∷ []))
     ∷ []
