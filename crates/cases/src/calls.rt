@@ -116,8 +116,8 @@ fn state_case(text: &[u8], from: usize) {
     let end = word(text, from);
     let settings = settings(ground::part(text, from, end));
     let next = word(text, end);
-    let place = place(ground::part(text, end, next));
-    let phase = phase(place % PHASES);
+    let named = phase_word(ground::part(text, end, next));
+    let phase = phase(named % PHASES);
     let position = number(text, next);
     let depth = number(text, position.next);
     let length = number(text, depth.next);
@@ -128,7 +128,7 @@ fn state_case(text: &[u8], from: usize) {
         depth: Depth(depth.value),
         length: length.value,
         settings,
-        mark: PHASES <= place,
+        mark: PHASES <= named,
     };
     let mut stack = filled(text, slots.next);
     let lent = lent(slots.value, &stack);
@@ -147,7 +147,7 @@ fn filled(text: &[u8], from: usize) -> [usize; ROOM]
 }
 
 // The number of a phase's word, which stands after a space; where the mark is on, more by as many as there are.
-fn place(name: &[u8]) -> usize {
+fn phase_word(name: &[u8]) -> usize {
     number_of(
         name,
         b" init; text; markup; ref; empty; done; !init; !text; !markup; !ref; !empty; !done",

@@ -47,9 +47,9 @@ no-call-turns-the-mark-off doc stack r on =
 -- ---- a run
 
 -- where neither of two is so the second is not
-or-right : (t u : Bool) → pick t true u ≡ false → u ≡ false
-or-right true u e = clash true refl e
-or-right false u e = e
+nor-second : (t u : Bool) → pick t true u ≡ false → u ≡ false
+nor-second true u e = clash true refl e
+nor-second false u e = e
 
 -- where no answer turned the mark on none was Eof
 none-was-eof : (before : List Answer) → oneIs turnsOn before ≡ false → oneIs isEof before ≡ false
@@ -60,7 +60,7 @@ none-was-eof (a ∷ before) e = by (isEof a) _ (none-was-eof before) e
     by : (eof other : Bool) → (oneIs turnsOn before ≡ false → oneIs isEof before ≡ false) → pick (pick eof true other) true (oneIs turnsOn before) ≡ false
         → pick eof true (oneIs isEof before) ≡ false
     by true other further e = e
-    by false other further e = further (or-right other _ e)
+    by false other further e = further (nor-second other _ e)
 
 module _ (doc stack : List ℕ) (c : Config) (short : length doc ≤ longest) where
   abbrev after : ℕ → World
@@ -223,8 +223,8 @@ module _ (doc stack : List ℕ) (c : Config) (short : length doc ≤ longest) wh
     unfolding run call oneIs
     none-open zero e u s = clash false e refl
     none-open (suc n) e u s =
-        let v = or-right (isUnclosed (answer n)) _ u in
-        let t = or-right (isEnding (answer n)) _ s in
+        let v = nor-second (isUnclosed (answer n)) _ u in
+        let t = nor-second (isEnding (answer n)) _ s in
         pick-cases (λ (b : Bool). b ≡ true → after (suc n) .reader .depth .0 ≡ 0) (isEof (answer n)) true (oneIs isEof (answers n))
         (λ f _. eof-keeps n f (at-eof (after n .reader .mark) refl f (λ h. none-open n (eof-is-left (answers n) h v t) v t)))
         (λ _ f. let d = after-eof n f in ap (λ (r : Reader). r .depth .0) (rest-reader doc stack c short n (d .0) (d .1)) ∙ none-open n f v t)
