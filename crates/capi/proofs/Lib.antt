@@ -1,4 +1,5 @@
 pub mod Calls
+pub mod Columns
 pub mod Growing
 pub mod Hosts
 pub mod Marks

@@ -1,0 +1,14 @@
+-- `report` meets its contract. Assumes nothing.
+use Rattle.capi.proofs.Columns.{columns}
+use Rattle.capi.proofs.summary.report.Statement.{statement}
+use Rattle.capi.proofs.summary.report.Tie as tie
+
+pub report-spec : {M : Type 1} → statement M
+report-spec =
+    tie.close
+    (tie.spec
+    (λ c κs. search columns)
+    (λ c. search columns)
+    (λ c κs. search columns)
+    (λ c. search columns)
+    (λ c. search columns))

@@ -1,0 +1,53 @@
+-- THE PROMISE of the column reader that a host links: the number that is answered, and every slot of what was lent.
+use Prim.Native.Nat.{ℕ}
+use mathlib.Core.Path.{_≡_}
+use mathlib.Core.Bool.{Bool}
+use mathlib.Core.List.{List, [], _∷_}
+use lib.ListN.{length}
+use lib.Dec.{ltb}
+use Rattle.ground.specs.Choose.{pick}
+use Rattle.state.specs.declared.answer.Values.{Values}
+use Rattle.columns.specs.declared.order.Order.{Order}
+use Rattle.columns.specs.Order.{orderOf}
+use Rattle.columns.specs.Outcome.{valuesOf}
+use Rattle.columns.specs.Column.{Reading, readIn, stackLeft, filledWith}
+use Rattle.capi.specs.Slots.{put}
+use Rattle.capi.specs.Calls.{badNumber}
+
+-- the first index that is lower than the one before it; 0, which has none before it, where the column never decreases
+abbrev pub lowerNumber : Order → ℕ
+lowerNumber Order.Kept = 0
+lowerNumber (Order.LowerAt i) = i
+
+-- the count, the order and the refusal, and how many slots that are
+unfoldable pub summaryNumbers : ℕ → Order → Values → List ℕ
+summaryNumbers count order v =
+    count
+    ∷ lowerNumber order
+    ∷ v .number
+    ∷ v .place
+    ∷ v .piece .from
+    ∷ v .piece .to
+    ∷ v .expected .from
+    ∷ v .expected .to
+    ∷ v .found .from
+    ∷ v .found .to
+    ∷ []
+
+abbrev pub columnSlots : ℕ
+columnSlots = 10
+
+-- what is read, as these numbers
+abbrev pub readNumbers : Reading → List ℕ
+readNumbers r = summaryNumbers (length (r .times)) (orderOf (r .times)) (valuesOf (r .outcome))
+
+-- the answer has too few slots
+abbrev pub noRoom : List ℕ → Bool
+noRoom answer = ltb (length answer) columnSlots
+
+-- the column that the document's times fill; 17 where the answer has too few slots, and nothing is written then
+pub record ColumnRead (doc stack column answer : List ℕ) (number : ℕ) (stack' column' answer' : List ℕ) : Type 0 where
+  pub said : number ≡ pick (noRoom answer) badNumber (valuesOf (readIn doc stack (length column) .outcome) .number)
+  pub names : stack' ≡ pick (noRoom answer) stack (stackLeft doc stack (length column))
+  pub times : column' ≡ pick (noRoom answer) column (filledWith (readIn doc stack (length column) .times) column)
+  pub slots : answer' ≡ put answer (readNumbers (readIn doc stack (length column)))

@@ -1,0 +1,4 @@
+pub mod Orders
+pub mod Texts
+pub mod Answers
+pub mod Turns

@@ -1,0 +1,6 @@
+pub mod Time
+pub mod Order
+pub mod Outcome
+pub mod Told
+pub mod Column
+pub mod Inside

@@ -1,0 +1,27 @@
+-- Whether times never decrease (document 02, M-111).
+use Prim.Native.Nat.{ℕ, _+_, _-_, _≤_, _<_}
+use mathlib.Core.List.{List, [], _∷_}
+use lib.ListN.{length, getD}
+use lib.Dec.{ltb}
+use Rattle.ground.specs.Choose.{pick}
+use Rattle.columns.specs.declared.order.Order.{Order}
+
+-- the first index lower than the one before it, among times that come after `before`; the first of them has the index i
+unfoldable pub orderFrom : ℕ → ℕ → List ℕ → Order
+orderFrom i before [] = Order.Kept
+orderFrom i before (t ∷ ts) = pick (ltb t before) (Order.LowerAt i) (orderFrom (i + 1) t ts)
+
+-- "whether the column never decreases, and if not, the first index lower than the one before it"
+abbrev pub orderOf : List ℕ → Order
+orderOf [] = Order.Kept
+orderOf (t ∷ ts) = orderFrom 1 t ts
+
+-- ---- the same in words
+
+-- the time with the index i
+abbrev pub time : List ℕ → ℕ → ℕ
+time ts i = getD ts i 0
+
+-- it is lower than the one before it
+abbrev pub Lower : List ℕ → ℕ → Type 0
+Lower ts i = (1 ≤ i) × (i < length ts) × (time ts i < time ts (i - 1))
