@@ -1,4 +1,6 @@
+pub mod Answers
 pub mod Orders
 pub mod Texts
-pub mod Answers
+pub mod Times
 pub mod Turns
+pub mod Whole

@@ -31,7 +31,7 @@ use Rattle.state.proofs.Room.{capacity-slots}
 use Rattle.reader.specs.Step.{step, Stepped}
 use Rattle.demands.specs.Run.{World, said, call, run}
 use Rattle.demands.specs.Answers.{isEof}
-use Rattle.demands.specs.Open.{entries, leftOpen}
+use Rattle.demands.specs.Open.{entries}
 use Rattle.demands.proofs.Demand1.{a-reader-made-is-a-run's, depth-within-capacity, stack-keeps-its-length, eof-stays}
 use Rattle.demands.proofs.Demand3.{open-names-are-those-told}
 use Rattle.columns.specs.declared.order.Order.{Order}
@@ -41,7 +41,7 @@ use Rattle.columns.specs.declared.outcome.Outcome.{Outcome}
 use Rattle.columns.specs.Order.{orderOf}
 use Rattle.columns.specs.Outcome.{isRefused}
 use Rattle.columns.specs.Told.{eventTells, tells}
-use Rattle.columns.specs.Column.{Reading, reading, onward, readOf, callsOf, answersOf, readIn, stackLeft, filledWith, Columned}
+use Rattle.columns.specs.Column.{Reading, reading, onward, readOf, callsOf, answersOf, readIn, stackLeft, filledWith, Columned, toldIn}
 use Rattle.columns.specs.Inside.{filledBy, slotsBy, ReadTo}
 
 -- ---- a column and its times
@@ -105,7 +105,7 @@ eof-tells-nothing doc names (Answer.Event e) h =
 eof-tells-nothing doc names (Answer.Refused x) h = clash false h refl
 
 -- what is not refused is read whole
-whole-outcome : (o : Outcome) → isRefused o ≡ false → o ≡ Outcome.Whole
+pub whole-outcome : (o : Outcome) → isRefused o ≡ false → o ≡ Outcome.Whole
 whole-outcome Outcome.Whole e = refl
 whole-outcome (Outcome.Refused x) e = clash true refl e
 whole-outcome (Outcome.BadTime x) e = clash true refl e
@@ -124,12 +124,8 @@ module _ (doc stack₀ column₀ : List ℕ) where
   abbrev pub asked : ℕ → ℕ
   asked n = callsOf doc (length column₀) (after n .answers)
 
-  -- the answer of call n + 1, and what it tells
-  abbrev pub told : ℕ → Told
-  told n = tells doc (leftOpen (said doc (after n) ∷ after n .answers)) (said doc (after n))
-
   module _ (n : ℕ) where
-    pub heard-next : isRefused (heard n .outcome) ≡ false → heard (suc n) ≡ onward (length column₀) (heard n) (told n)
+    pub heard-next : isRefused (heard n .outcome) ≡ false → heard (suc n) ≡ onward (length column₀) (heard n) (toldIn doc (after n))
     unfolding run call readOf
     heard-next e = rw e refl
 
@@ -262,7 +258,7 @@ module _ (doc stack₀ column₀ stack column : List ℕ) (r : Reader) (i count 
 
     module _ (t : Told) (f : Filled) (column' : List ℕ) (et : t ≡ tells doc (entries after' (s .reader .depth .0)) (s .answer))
         (ef : f ≡ filledBy (length column) count t) (ec : column' ≡ slotsBy column count t) where
-      told-next : t ≡ told doc stack₀ column₀ i
+      told-next : t ≡ toldIn doc (run doc stack₀ defaults i)
       unfolding run call
       told-next =
           et ∙ rw (next-reader, next-stack, next-said) refl

@@ -1,6 +1,7 @@
 -- The column that the answers of a run tell, and THE PROMISE of `column` (document 02, M-111).
-use Prim.Native.Nat.{ℕ, suc, _+_}
+use Prim.Native.Nat.{ℕ, suc, _+_, _<_}
 use mathlib.Core.Path.{_≡_}
+use mathlib.Core.Bool.{true}
 use mathlib.Core.List.{List, [], _∷_, _++_}
 use lib.ListN.{length, drop}
 use lib.Dec.{ltb}
@@ -9,7 +10,7 @@ use Rattle.state.specs.declared.answer.Answer.{Answer}
 use Rattle.state.specs.declared.run.Made.{Made}
 use Rattle.state.specs.Make.{made}
 use Rattle.state.specs.Settings.{defaults}
-use Rattle.demands.specs.Run.{run}
+use Rattle.demands.specs.Run.{World, said, run}
 use Rattle.demands.specs.Open.{leftOpen}
 use Rattle.columns.specs.declared.Summary.{Summary}
 use Rattle.columns.specs.declared.outcome.Outcome.{Outcome}
@@ -77,3 +78,32 @@ pub record Columned (doc stack column : List ℕ) (answer : Summary) (stack' col
   pub order : answer .order ≡ orderOf (readIn doc stack (length column) .times)
   pub slots : column' ≡ filledWith (readIn doc stack (length column) .times) column
   pub names : stack' ≡ stackLeft doc stack (length column)
+
+-- ---- the same in words
+
+-- the times that answers tell, in their order, whatever the column holds
+abbrev pub timeIn : Told → List ℕ
+timeIn Told.Nothing = []
+timeIn (Told.Time value piece) = value ∷ []
+timeIn (Told.Refused outcome) = []
+
+unfoldable pub timesTold : List ℕ → List Answer → List ℕ
+timesTold doc [] = []
+timesTold doc (a ∷ before) = timesTold doc before ++ timeIn (tells doc (leftOpen (a ∷ before)) a)
+
+-- an answer stops a reading of these times: it refuses, or tells one more time than there is room for
+abbrev pub Stops : ℕ → List ℕ → Told → Outcome → Type 0
+Stops room times Told.Nothing outcome = ⊥
+Stops room times (Told.Time value piece) outcome = (length times ≡ room) × (outcome ≡ Outcome.ColumnFull piece)
+Stops room times (Told.Refused why) outcome = (isRefused why ≡ true) × (outcome ≡ why)
+
+-- what the next call tells
+abbrev pub toldIn : List ℕ → World → Told
+toldIn doc w = tells doc (leftOpen (said doc w ∷ w .answers)) (said doc w)
+
+-- "the first from the left": call n + 1 stops the reading, and none before it does
+pub record StoppedBy (doc stack : List ℕ) (room : ℕ) (r : Reading) (n : ℕ) : Type 0 where
+  pub times : r .times ≡ timesTold doc (run doc stack defaults n .answers)
+  pub stops : Stops room (r .times) (toldIn doc (run doc stack defaults n)) (r .outcome)
+  pub before : (k : ℕ) (outcome : Outcome) → k < n → Stops room (timesTold doc (run doc stack defaults k .answers)) (toldIn doc (run doc stack defaults k)) outcome → ⊥
+  pub calls : callsOf doc room (answersOf doc stack) ≡ suc n

@@ -1,5 +1,7 @@
 -- The text of a time (document 02, M-111).
-use Prim.Native.Nat.{ℕ, _+_, _-_, _*_}
+use Prim.Native.Nat.{ℕ, _+_, _-_, _*_, _<_}
+use mathlib.Core.Path.{_≡_}
+use mathlib.Core.Logic.{_⊎_}
 use mathlib.Core.List.{List, [], _∷_}
 use mathlib.Core.Bool.{Bool, false}
 use lib.ListN.{length, getD, take, drop}
@@ -60,3 +62,9 @@ cleared s = clearedEnd (drop (leading s) s)
 -- what text tells: nothing where that leaves it empty, a time's value, or that it is no time
 unfoldable pub readTime : List ℕ → Text
 readTime s = pick (eqb (length (cleared s)) 0) Text.Empty (pick (isTime (cleared s)) (Text.Time (value (cleared s))) Text.Other)
+
+-- ---- the order of the day in words
+
+-- one time comes before another: by its hours, and in the same hour by its minutes
+abbrev pub Before : List ℕ → List ℕ → Type 0
+Before a b = (hours a < hours b) ⊎ ((hours a ≡ hours b) × (minutes a < minutes b))

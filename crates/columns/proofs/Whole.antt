@@ -1,0 +1,357 @@
+-- What a caller knows of a column, from its promise and the demands alone. Assumes nothing.
+use Prim.Native.Nat.{ℕ, zero, suc, _+_, _-_, _≤_, _<_}
+use mathlib.Core.Path.{_≡_, refl, sym, ap, _∙_, subst}
+use mathlib.Core.List.{List, [], _∷_, _++_, append-nil}
+use mathlib.Core.Bool.{Bool, true, false}
+use native.Mathlib.Omega.{arith}
+use native.Mathlib.Decide.{decLt}
+use lib.ListN.{length, getD, drop, length-append, List·getD-append}
+use lib.Seq.{getD-append-add, getD-drop}
+use lib.Dec.{eqb, ltb}
+use borrow.Author.Tests.{eqb-true, ltb-true, ltb-false, lt-ltb, le-ltb}
+use Rattle.ground.specs.Choose.{pick}
+use Rattle.ground.specs.Least.{Gives}
+use Rattle.ground.proofs.Choices.{clash, pick-cases}
+use Rattle.state.specs.declared.place.Span.{Span}
+use Rattle.state.specs.declared.answer.Kind.{Kind}
+use Rattle.state.specs.declared.answer.Answer.{Answer}
+use Rattle.state.specs.declared.answer.Event.{Event}
+use Rattle.state.specs.declared.answer.Error.{Error}
+use Rattle.state.specs.Limits.{longest}
+use Rattle.state.specs.Make.{refusal, made}
+use Rattle.state.specs.Place.{at, span}
+use Rattle.state.specs.Settings.{defaults}
+use Rattle.state.specs.Values.{kindNumber, valuesOf}
+use Rattle.reader.specs.Names.{bytes}
+use Rattle.demands.specs.Run.{World, said, call, run}
+use Rattle.demands.specs.Answers.{isEof, latestIs}
+use Rattle.demands.proofs.Demand1.{turn, position-never-falls, eof-by-length-and-two}
+use Rattle.columns.specs.declared.Summary.{Summary}
+use Rattle.columns.specs.declared.order.Order.{Order}
+use Rattle.columns.specs.declared.text.Text.{Text}
+use Rattle.columns.specs.declared.told.Told.{Told}
+use Rattle.columns.specs.declared.outcome.Outcome.{Outcome}
+use Rattle.columns.specs.Time.{isTime, value, cleared, readTime}
+use Rattle.columns.specs.Order.{time, Lower}
+use Rattle.columns.specs.Outcome.{isRefused}
+use Rattle.columns.specs.Told.{isKind, within, textToldAs, textTells, eventTells, tells}
+use Rattle.columns.specs.Column.{Reading, reading, onward, readOf, callsOf, answersOf, readIn, filledWith, Columned, timeIn, timesTold, Stops, toldIn, StoppedBy}
+use Rattle.columns.proofs.Orders.{the-index-is-the-first-that-is-lower, kept-order-never-decreases}
+use Rattle.columns.proofs.Turns.{heard, asked, heard-next, heard-over, asked-next, asked-over}
+
+-- ---- the promise leaves one answer
+
+same-summary : (s s′ : Summary) → s .count ≡ s′ .count → s .outcome ≡ s′ .outcome → s .order ≡ s′ .order → s ≡ s′
+same-summary s s′ c o d =
+    ap (λ (x : ℕ). record { count = x; outcome = s .outcome; order = s .order }) c
+    ∙ ap (λ (x : Outcome). record { count = s′ .count; outcome = x; order = s .order }) o
+    ∙ ap (λ (x : Order). record { count = s′ .count; outcome = s′ .outcome; order = x }) d
+
+-- THEOREM: a second answer, a second stack and a second column that meet the promise are the first
+pub only-one : (doc stack column : List ℕ) (s s′ : Summary) (stack' stack″ column' column″ : List ℕ) → Columned doc stack column s stack' column'
+    → Columned doc stack column s′ stack″ column″ → (s ≡ s′) × (stack' ≡ stack″) × (column' ≡ column″)
+only-one doc stack column s s′ stack' stack″ column' column″ p q = (
+  same-summary s s′ (p .times ∙ sym (q .times)) (p .refusal ∙ sym (q .refusal)) (p .order ∙ sym (q .order)),
+  p .names ∙ sym (q .names),
+  p .slots ∙ sym (q .slots),
+)
+
+-- ---- what an answer tells
+
+empty-text : (s : List ℕ) → eqb (length s) 0 ≡ true → s ≡ []
+empty-text [] e = refl
+empty-text (b ∷ s) e = let z : suc (length s) ≡ 0 = eqb-true (suc (length s)) 0 e in absurd (omega arith)
+
+-- what a text gives
+pub data Gave (text : List ℕ) (piece : Span) (t : Told) : Type 0 where
+  none : cleared text ≡ [] → t ≡ Told.Nothing → Gave text piece t
+  one : isTime (cleared text) ≡ true → t ≡ Told.Time (value (cleared text)) piece → Gave text piece t
+  refuses : isTime (cleared text) ≡ false → t ≡ Told.Refused (Outcome.BadTime piece) → Gave text piece t
+
+gave : (text : List ℕ) (piece : Span) (empty is : Bool) → eqb (length (cleared text)) 0 ≡ empty → isTime (cleared text) ≡ is
+    → Gave text piece (textToldAs piece (pick empty Text.Empty (pick is (Text.Time (value (cleared text))) Text.Other)))
+gave text piece true is e f = none (empty-text (cleared text) e) refl
+gave text piece false true e f = one f refl
+gave text piece false false e f = refuses f refl
+
+-- THEOREM: "each Text within `t` gives one value, none, or the refusal"
+pub each-text-gives-a-value-none-or-the-refusal : (text : List ℕ) (piece : Span) → Gave text piece (textTells text piece)
+unfolding textTells readTime
+each-text-gives-a-value-none-or-the-refusal text piece = gave text piece (eqb (length (cleared text)) 0) (isTime (cleared text)) refl refl
+
+-- the answer that tells a time
+pub record Timed (doc : List ℕ) (names : List Span) (a : Answer) (v : ℕ) (piece : Span) : Type 0 where
+  pub text : valuesOf a .kind ≡ kindNumber Kind.Text
+  pub inside : within doc names ≡ true
+  pub is : isTime (cleared (bytes doc (valuesOf a .content))) ≡ true
+  pub worth : v ≡ value (cleared (bytes doc (valuesOf a .content)))
+  pub place : piece ≡ valuesOf a .piece
+
+module _ (doc : List ℕ) (names : List Span) (v : ℕ) (piece : Span) where
+  no-time : {A : Type 0} → Told.Nothing ≡ Told.Time v piece → A
+  no-time e = let z : _≡_ {A = ℕ} 0 1 = cc in absurd (omega arith)
+
+  refuses-no-time : {A : Type 0} (o : Outcome) → Told.Refused o ≡ Told.Time v piece → A
+  refuses-no-time o e = let z : _≡_ {A = ℕ} 0 1 = cc in absurd (omega arith)
+
+  text-timed : (e : Event) → isKind Kind.Text e ≡ true → within doc names ≡ true → (t : Told) → Gave (bytes doc (e .content)) (e .piece) t → t ≡ Told.Time v piece
+      → Timed doc names (Answer.Event e) v piece
+  text-timed e k w t (none c f) h = no-time (sym f ∙ h)
+  text-timed e k w t (one c f) h =
+      let g : Told.Time (value (cleared (bytes doc (e .content)))) (e .piece) ≡ Told.Time v piece = sym f ∙ h in
+      record { text = eqb-true (kindNumber (e .kind)) (kindNumber Kind.Text) k; inside = w; is = c; worth = cc; place = cc }
+  text-timed e k w t (refuses c f) h = refuses-no-time (Outcome.BadTime (e .piece)) (sym f ∙ h)
+
+  -- THEOREM: a time is told by a Text within `t` alone, and it is that text's
+  pub only-text-within-t-tells-a-time : (a : Answer) → tells doc names a ≡ Told.Time v piece → Timed doc names a v piece
+  unfolding eventTells
+  only-text-within-t-tells-a-time (Answer.Refused x) h = refuses-no-time (Outcome.Refused x) h
+  only-text-within-t-tells-a-time (Answer.Event e) h =
+      pick-cases M (isKind Kind.Text e) _ _
+      (λ k. pick-cases M (within doc names) _ _ (λ w. text-timed e k w _ (each-text-gives-a-value-none-or-the-refusal (bytes doc (e .content)) (e .piece))) (λ _ g. no-time g))
+      (λ _.
+      pick-cases M (isKind Kind.GeneralRef e) _ _
+      (λ _. pick-cases M (within doc names) _ _ (λ _ g. refuses-no-time (Outcome.BadTime (e .piece)) g) (λ _ g. no-time g))
+      (λ _ g. no-time g))
+      h
+    where
+      M : Told → Type 0
+      M t = t ≡ Told.Time v piece → Timed doc names (Answer.Event e) v piece
+
+-- ---- what is read
+
+-- a call that does not end the reading adds the time that it tells, if it tells one
+onward-adds : (room : ℕ) (r : Reading) (t : Told) → isRefused (onward room r t .outcome) ≡ false → onward room r t .times ≡ r .times ++ timeIn t
+onward-adds room r Told.Nothing e = sym (append-nil (r .times))
+onward-adds room r (Told.Time v piece) e =
+    pick-cases (λ (x : Reading). isRefused (x .outcome) ≡ false → x .times ≡ r .times ++ (v ∷ [])) (ltb (length (r .times)) room) _ _
+    (λ _ _. refl)
+    (λ _ h. clash true refl h)
+    e
+onward-adds room r (Told.Refused o) e = sym (append-nil (r .times))
+
+-- one that ends it stops it, and adds none
+onward-stops : (room : ℕ) (r : Reading) (t : Told) → isRefused (r .outcome) ≡ false → isRefused (onward room r t .outcome) ≡ true → length (r .times) ≤ room
+    → (onward room r t .times ≡ r .times) × Stops room (r .times) t (onward room r t .outcome)
+onward-stops room r Told.Nothing n e l = clash (isRefused (r .outcome)) e n
+onward-stops room r (Told.Time v piece) n e l =
+    pick-cases (λ (x : Reading). isRefused (x .outcome) ≡ true → (x .times ≡ r .times) × ((length (r .times) ≡ room) × (x .outcome ≡ Outcome.ColumnFull piece)))
+    (ltb (length (r .times)) room) _ _
+    (λ _ h. clash (isRefused (r .outcome)) h n)
+    (λ f _. (refl, (omega (arith, ltb-false (length (r .times)) room f), refl)))
+    e
+onward-stops room r (Told.Refused o) n e l = (refl, (e, refl))
+
+-- one that does not end it does not stop it
+onward-goes : (room : ℕ) (r : Reading) (t : Told) (outcome : Outcome) → isRefused (onward room r t .outcome) ≡ false → Stops room (r .times) t outcome → ⊥
+onward-goes room r Told.Nothing outcome e s = s
+onward-goes room r (Told.Time v piece) outcome e s =
+    pick-cases (λ (x : Reading). isRefused (x .outcome) ≡ false → ⊥) (ltb (length (r .times)) room) _ _
+    (λ f _. omega (arith, ltb-true (length (r .times)) room f, s .0))
+    (λ _ h. clash true refl h)
+    e
+onward-goes room r (Told.Refused o) outcome e s = clash (isRefused o) (s .0) e
+
+onward-room : (room : ℕ) (r : Reading) (t : Told) → length (r .times) ≤ room → length (onward room r t .times) ≤ room
+onward-room room r Told.Nothing l = l
+onward-room room r (Told.Time v piece) l =
+    pick-cases (λ (x : Reading). length (x .times) ≤ room) (ltb (length (r .times)) room) _ _
+    (λ e. omega (arith, ltb-true (length (r .times)) room e, length-append (r .times) (v ∷ [])))
+    (λ _. l)
+onward-room room r (Told.Refused o) l = l
+
+module _ (doc stack column : List ℕ) where
+  abbrev room : ℕ
+  room = length column
+
+  abbrev after : ℕ → World
+  after n = run doc stack defaults n
+
+  abbrev read : ℕ → Reading
+  read n = heard doc stack column n
+
+  -- where the reading goes on after a call it went on before it
+  went-on : (n : ℕ) → isRefused (read (suc n) .outcome) ≡ false → isRefused (read n .outcome) ≡ false
+  went-on n e = by (isRefused (read n .outcome)) refl
+    where
+      by : (t : Bool) → isRefused (read n .outcome) ≡ t → t ≡ false
+      by false f = refl
+      by true f = clash (isRefused (read n .outcome)) f (ap (λ (r : Reading). isRefused (r .outcome)) (sym (heard-over doc stack column n f)) ∙ e)
+
+  times-more : (n : ℕ) → timesTold doc (after (suc n) .answers) ≡ timesTold doc (after n .answers) ++ timeIn (toldIn doc (after n))
+  unfolding run call timesTold
+  times-more n = refl
+
+  -- as long as nothing is refused the times are all that are told
+  all-told : (n : ℕ) → isRefused (read n .outcome) ≡ false → read n .times ≡ timesTold doc (after n .answers)
+  unfolding run readOf timesTold
+  all-told zero e = refl
+  all-told (suc n) e =
+      let f = went-on n e in
+      let h = heard-next doc stack column n f in
+      ap (λ (r : Reading). r .times) h
+      ∙ onward-adds room (read n) (toldIn doc (after n)) (ap (λ (r : Reading). isRefused (r .outcome)) (sym h) ∙ e)
+      ∙ ap (λ (ts : List ℕ). ts ++ timeIn (toldIn doc (after n))) (all-told n f)
+      ∙ sym (times-more n)
+
+  -- the reading has no more times than the column has slots
+  in-room : (n : ℕ) → length (read n .times) ≤ room
+  unfolding run readOf
+  in-room zero = omega arith
+  in-room (suc n) = by (isRefused (read n .outcome)) refl (in-room n)
+    where
+      by : (t : Bool) → isRefused (read n .outcome) ≡ t → length (read n .times) ≤ room → length (read (suc n) .times) ≤ room
+      by true e l = rw (heard-over doc stack column n e) l
+      by false e l = rw (heard-next doc stack column n e) (onward-room room (read n) (toldIn doc (after n)) l)
+
+  -- where something is refused, one call did it first
+  record First (n m : ℕ) : Type 0 where
+    pub below : m < n
+    pub went : isRefused (read m .outcome) ≡ false
+    pub is : read n ≡ read (suc m)
+    pub over : isRefused (read (suc m) .outcome) ≡ true
+    pub calls : asked doc stack column n ≡ asked doc stack column (suc m)
+
+  first : (n : ℕ) → isRefused (read n .outcome) ≡ true → (m : ℕ) × First n m
+  unfolding run readOf
+  first zero e = clash false e refl
+  first (suc n) e = by (isRefused (read n .outcome)) refl (first n)
+    where
+      by : (t : Bool) → isRefused (read n .outcome) ≡ t → (isRefused (read n .outcome) ≡ true → (m : ℕ) × First n m) → (m : ℕ) × First (suc n) m
+      by true f more =
+          let x = more f in (
+            x .0,
+            record {
+              below = omega (arith, x .1 .below);
+              went = x .1 .went;
+              is = heard-over doc stack column n f ∙ x .1 .is;
+              over = x .1 .over;
+              calls = asked-over doc stack column n f ∙ x .1 .calls;
+            },
+          )
+      by false f more = (n, record { below = omega arith; went = f; is = refl; over = e; calls = refl })
+
+  -- a call before one that goes on goes on
+  goes-before : (k m : ℕ) → k ≤ m → isRefused (read m .outcome) ≡ false → isRefused (read k .outcome) ≡ false
+  goes-before k zero l e = let z : k ≡ 0 = omega arith in rw z e
+  goes-before k (suc m) l e =
+      elim (decLt k (suc m)) [
+        | yes h ↦ goes-before k m (omega arith) (went-on m e)
+        | no h ↦ let z : k ≡ suc m = omega arith in rw z e
+      ]
+
+  -- and counts
+  asked-all : (m : ℕ) → isRefused (read m .outcome) ≡ false → asked doc stack column m ≡ m
+  unfolding run callsOf
+  asked-all zero e = refl
+  asked-all (suc m) e = let f = went-on m e in asked-next doc stack column m f ∙ ap suc (asked-all m f)
+
+  asked-within : (n : ℕ) → asked doc stack column n ≤ n
+  unfolding run callsOf
+  asked-within zero = omega arith
+  asked-within (suc n) = by (isRefused (read n .outcome)) refl (asked-within n)
+    where
+      by : (t : Bool) → isRefused (read n .outcome) ≡ t → asked doc stack column n ≤ n → asked doc stack column (suc n) ≤ suc n
+      by true e l = omega (arith, asked-over doc stack column n e)
+      by false e l = omega (arith, asked-next doc stack column n e)
+
+  -- one that goes on is no stop
+  no-stop : (k : ℕ) (outcome : Outcome) → isRefused (read (suc k) .outcome) ≡ false → Stops room (timesTold doc (after k .answers)) (toldIn doc (after k)) outcome → ⊥
+  no-stop k outcome e s =
+      let f = went-on k e in
+      let h = heard-next doc stack column k f in
+      onward-goes room (read k) (toldIn doc (after k)) outcome
+      (ap (λ (r : Reading). isRefused (r .outcome)) (sym h) ∙ e)
+      (subst (λ (ts : List ℕ). Stops room ts (toldIn doc (after k)) outcome) (sym (all-told k f)) s)
+
+  -- the reading is stopped by the first call that does
+  stopped : isRefused (read (length doc + 2) .outcome) ≡ true → (m : ℕ) × StoppedBy doc stack room (read (length doc + 2)) m
+  stopped e =
+      let x = first (length doc + 2) e in
+      let m = x .0 in
+      let f = x .1 in
+      let h = heard-next doc stack column m (f .went) in
+      let s = onward-stops room (read m) (toldIn doc (after m)) (f .went) (ap (λ (r : Reading). isRefused (r .outcome)) (sym h) ∙ f .over) (in-room m) in
+      let t : read (length doc + 2) .times ≡ read m .times = ap (λ (r : Reading). r .times) (f .is ∙ h) ∙ s .0 in (
+        m,
+        record {
+          times = t ∙ all-told m (f .went);
+          stops =
+              subst (λ (r : Reading). Stops room (r .times) (toldIn doc (after m)) (r .outcome)) (sym (f .is ∙ h))
+              (subst (λ (ts : List ℕ). Stops room ts (toldIn doc (after m)) (onward room (read m) (toldIn doc (after m)) .outcome)) (sym (s .0)) (s .1));
+          before = λ k outcome l. no-stop k outcome (goes-before (suc k) m (omega arith) (f .went));
+          calls = f .calls ∙ asked-next doc stack column m (f .went) ∙ ap suc (asked-all m (f .went));
+        },
+      )
+
+  -- ---- the theorems
+
+  -- THEOREM: "16 where the document is too long"
+  pub too-long-is-16 : longest < length doc → readIn doc stack room ≡ reading [] (Outcome.Refused (refusal Error.SliceTooLong (at 0) (span 0 0)))
+  unfolding readIn made
+  too-long-is-16 l = rw (lt-ltb longest (length doc) l) refl
+
+  module _ (short : length doc ≤ longest) where
+    is-read : readIn doc stack room ≡ read (length doc + 2)
+    unfolding readIn made
+    is-read = rw (le-ltb longest (length doc) short) refl
+
+    -- THEOREM: no time is left out and none is read twice: where nothing is refused, the column has the times that all answers tell, each once and in their order
+    pub the-column-is-the-times-told : readIn doc stack room .outcome ≡ Outcome.Whole → readIn doc stack room .times ≡ timesTold doc (answersOf doc stack)
+    the-column-is-the-times-told e =
+        ap (λ (r : Reading). r .times) is-read
+        ∙ all-told (length doc + 2) (ap (λ (r : Reading). isRefused (r .outcome)) (sym is-read) ∙ ap isRefused e)
+
+    -- THEOREM: "Refusals, the first from the left, end the reading": the times told before it stay, and none is read after it
+    pub the-first-refusal-ends-the-reading : isRefused (readIn doc stack room .outcome) ≡ true → (n : ℕ) × StoppedBy doc stack room (readIn doc stack room) n
+    the-first-refusal-ends-the-reading e =
+        subst (λ (r : Reading). (n : ℕ) × StoppedBy doc stack room r n) (sym is-read)
+        (stopped (ap (λ (r : Reading). isRefused (r .outcome)) (sym is-read) ∙ e))
+
+    -- THEOREM: the times are told in document order: the piece of one ends before that of a later one begins
+    pub times-are-told-in-document-order : (m n v w : ℕ) (p q : Span) → m < n → toldIn doc (after m) ≡ Told.Time v p → toldIn doc (after n) ≡ Told.Time w q → p .to ≤ q .from
+    unfolding run call
+    times-are-told-in-document-order m n v w p q l e f =
+        let a = only-text-within-t-tells-a-time doc _ v p (said doc (after m)) e in
+        let b = only-text-within-t-tells-a-time doc _ w q (said doc (after n)) f in
+        let k : n - suc m + suc m ≡ n = omega arith in
+        let up : after (suc m) .reader .position .0 ≤ after n .reader .position .0 =
+        rw k at (position-never-falls doc stack defaults short (suc m) (n - suc m)) in
+        rw (a .place, b .place) (omega (arith, turn doc stack defaults short m .left, turn doc stack defaults short n .after, up))
+
+    -- THEOREM: it ends: end of file comes within the calls that are made at most, so where nothing is refused it was reached
+    pub it-ends : (latestIs isEof (answersOf doc stack) ≡ true) × (callsOf doc room (answersOf doc stack) ≤ length doc + 2)
+    unfolding run call
+    it-ends =
+        let e : length doc + 2 ≡ suc (length doc + 1) = omega arith in
+        (subst (λ (n : ℕ). latestIs isEof (after n .answers) ≡ true) (sym e) (eof-by-length-and-two doc stack defaults short), asked-within (length doc + 2))
+
+-- ---- the slots
+
+module _ (doc stack column : List ℕ) (s : Summary) (stack' column' : List ℕ) (p : Columned doc stack column s stack' column') where
+  abbrev times : List ℕ
+  times = readIn doc stack (length column) .times
+
+  -- THEOREM: the slots up to the count are the times, in their order
+  pub the-first-slots-are-the-times : (i : ℕ) → i < s .count → getD column' i 0 ≡ time times i
+  the-first-slots-are-the-times i l = ap (λ (c : List ℕ). getD c i 0) (p .slots) ∙ List·getD-append times (drop (length times) column) 0 i (omega (arith, p .times))
+
+  -- THEOREM: "later slots are unchanged"
+  pub later-slots-are-unchanged : (i : ℕ) → s .count ≤ i → getD column' i 0 ≡ getD column i 0
+  later-slots-are-unchanged i l =
+      let k : length times + (i - length times) ≡ i = omega (arith, p .times) in
+      ap (λ (c : List ℕ). getD c i 0) (p .slots)
+      ∙ ap (λ (j : ℕ). getD (filledWith times column) j 0) (sym k)
+      ∙ getD-append-add times (drop (length times) column) (i - length times) 0
+      ∙ getD-drop (length times) column (i - length times) 0
+      ∙ ap (λ (j : ℕ). getD column j 0) k
+
+  -- THEOREM: if 'never decreases' is answered, every two of its slots i < j have value i ≤ value j
+  pub the-column-never-decreases : s .order ≡ Order.Kept → (i j : ℕ) → i < j → j < s .count → getD column' i 0 ≤ getD column' j 0
+  the-column-never-decreases e i j l h =
+      rw (the-first-slots-are-the-times i (omega arith), the-first-slots-are-the-times j h)
+      (kept-order-never-decreases times (sym (p .order) ∙ e) i j l (omega (arith, p .times)))
+
+  -- THEOREM: else the index given is the first whose time is lower than the one before it
+  pub the-index-given-is-the-first : Gives Order.LowerAt (s .order) (Lower times)
+  the-index-given-is-the-first = rw (p .order) (the-index-is-the-first-that-is-lower times)
