@@ -4,3 +4,4 @@ pub mod Texts
 pub mod Times
 pub mod Turns
 pub mod Whole
+pub mod Worked

@@ -1,6 +1,6 @@
 -- The order of values is the order of hours and minutes, and no two times have one value. Assumes nothing.
-use Prim.Native.Nat.{ℕ, zero, suc, _-_, _≤_, _<_}
-use mathlib.Core.Path.{_≡_, sym, _∙_}
+use Prim.Native.Nat.{ℕ, zero, suc, _+_, _-_, _*_, _/_, _%_, _≤_, _<_}
+use mathlib.Core.Path.{_≡_, refl, sym, _∙_}
 use mathlib.Core.List.{List}
 use mathlib.Core.Bool.{true}
 use mathlib.Core.Logic.{_↔_, _⊎_, inl, inr, ⊎-elim}
@@ -9,9 +9,9 @@ use native.Mathlib.Decide.{decLt}
 use lib.ListN.{length}
 use lib.Seq.{ext-getD}
 use lib.Dec.{eqb, leb}
-use borrow.Author.Tests.{eqb-true, leb-true}
+use borrow.Author.Tests.{eqb-true, leb-true, le-leb}
 use Rattle.ground.proofs.Choices.{both}
-use Rattle.columns.specs.Time.{colon, isDigit, twoDigits, byte, isClock, hours, minutes, isTime, value, Before}
+use Rattle.columns.specs.Time.{colon, isDigit, twoDigits, byte, isClock, hours, minutes, isTime, value, speltAt, spelt, Before}
 
 -- what a digit's test says
 digit-range : (b : ℕ) → isDigit b ≡ true → (0x30 ≤ b) × (b ≤ 0x39)
@@ -102,3 +102,32 @@ module _ (a b : List ℕ) (ta : isTime a ≡ true) (tb : isTime b ≡ true) wher
 -- THEOREM: a value is below two days' minutes
 pub a-value-is-below-two-days : (a : List ℕ) → isTime a ≡ true → value a ≤ 2879
 a-value-is-below-two-days a t = omega (arith, clock a t .late, clock a t .long)
+
+-- ---- printed
+
+digit-spelt : (n : ℕ) → n ≤ 9 → isDigit (0x30 + n) ≡ true
+digit-spelt n l = rw (le-leb 0x30 (0x30 + n) (omega arith), le-leb (0x30 + n) 0x39 (omega arith)) refl
+
+module _ (v : ℕ) (low : v ≤ 2879) where
+  -- THEOREM: what is printed of a value is a time with that value
+  pub a-value-is-printed-as-its-time : (isTime (spelt v) ≡ true) × (value (spelt v) ≡ v)
+  unfolding isTime isClock twoDigits speltAt
+  a-value-is-printed-as-its-time =
+      let h : 10 * (0x30 + v / 60 / 10 % 10 - 0x30) + (0x30 + v / 60 % 10 - 0x30) ≤ 47 = omega arith in
+      let m : 10 * (0x30 + v % 60 / 10 - 0x30) + (0x30 + v % 60 % 10 - 0x30) ≤ 59 = omega arith in
+      (rw (
+        digit-spelt (v / 60 / 10 % 10) (omega arith),
+        digit-spelt (v / 60 % 10) (omega arith),
+        digit-spelt (v % 60 / 10) (omega arith),
+        digit-spelt (v % 60 % 10) (omega arith),
+        le-leb (10 * (0x30 + v / 60 / 10 % 10 - 0x30) + (0x30 + v / 60 % 10 - 0x30)) 47 h,
+        le-leb (10 * (0x30 + v % 60 / 10 - 0x30) + (0x30 + v % 60 % 10 - 0x30)) 59 m,
+      )
+      refl,
+      omega arith)
+
+-- THEOREM: so a time that is read is printed as it stood
+pub a-time-is-printed-as-it-stood : (a : List ℕ) → isTime a ≡ true → spelt (value a) ≡ a
+a-time-is-printed-as-it-stood a t =
+    let p = a-value-is-printed-as-its-time (value a) (a-value-is-below-two-days a t) in
+    one-value-one-time (spelt (value a)) a (p .0) t (p .1)

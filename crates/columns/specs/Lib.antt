@@ -4,3 +4,4 @@ pub mod Outcome
 pub mod Told
 pub mod Column
 pub mod Inside
+pub mod Table

@@ -1,5 +1,5 @@
 -- The text of a time (document 02, M-111).
-use Prim.Native.Nat.{ℕ, _+_, _-_, _*_, _<_}
+use Prim.Native.Nat.{ℕ, _+_, _-_, _*_, _/_, _%_, _<_}
 use mathlib.Core.Path.{_≡_}
 use mathlib.Core.Logic.{_⊎_}
 use mathlib.Core.List.{List, [], _∷_}
@@ -62,6 +62,18 @@ cleared s = clearedEnd (drop (leading s) s)
 -- what text tells: nothing where that leaves it empty, a time's value, or that it is no time
 unfoldable pub readTime : List ℕ → Text
 readTime s = pick (eqb (length (cleared s)) 0) Text.Empty (pick (isTime (cleared s)) (Text.Time (value (cleared s))) Text.Other)
+
+-- ---- a value printed
+
+-- the byte at a place of a value's time, and all five
+unfoldable pub speltAt : ℕ → ℕ → ℕ
+speltAt v place =
+    pick (eqb place 0)
+    (zeroDigit + v / 60 / 10 % 10)
+    (pick (eqb place 1) (zeroDigit + v / 60 % 10) (pick (eqb place 2) colon (pick (eqb place 3) (zeroDigit + v % 60 / 10) (zeroDigit + v % 60 % 10))))
+
+abbrev pub spelt : ℕ → List ℕ
+spelt v = speltAt v 0 ∷ speltAt v 1 ∷ speltAt v 2 ∷ speltAt v 3 ∷ speltAt v 4 ∷ []
 
 -- ---- the order of the day in words
 

@@ -2,6 +2,7 @@
 mod names;
 pub mod order;
 pub mod outcome;
+pub mod spell;
 mod text;
 mod told;
 

@@ -1,5 +1,6 @@
 // The line of an answer.
 use lines::line::say_numbers;
+use lines::whole::say_refused;
 use lines::words::say_word;
 use state::answer::Values;
 
@@ -13,9 +14,4 @@ pub fn say_values(values: Values) {
     let numbers = [piece.from, piece.to, content.from, content.to, values.name];
     say_word(values.kind);
     say_numbers(b" # # # # #\n", &numbers);
-}
-
-pub fn say_refused(number: usize, place: usize) {
-    let numbers = [number, place];
-    say_numbers(b"refused # #\n", &numbers);
 }

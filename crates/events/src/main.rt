@@ -3,6 +3,8 @@
 mod line;
 
 use libc::STDIN_FILENO;
+use lines::whole::more;
+use lines::whole::say_refused;
 use reader::advance;
 use state::answer::Kind;
 use state::config::Config;
@@ -13,19 +15,10 @@ fn main() {
     let mut buffer = io::large_buffer();
     let n = io::read_full(STDIN_FILENO, &mut buffer);
     if more(n) {
-        line::say_refused(16, 0);
+        say_refused(16, 0);
         return;
     }
     list(&buffer[..n]);
-}
-
-// Whether n bytes are as many as are read, and standard input has another.
-fn more(n: usize) -> bool {
-    if n < 65536 {
-        return false;
-    }
-    let mut next = [0u8; 1];
-    0 < io::read_full(STDIN_FILENO, &mut next)
 }
 
 fn list(document: &[u8]) {
