@@ -1,4 +1,4 @@
--- What the column reader of a host answers and leaves, from the promises of what it calls; and what the number of the order says. Assumes nothing.
+-- What the column reader of a host answers and leaves, from the promises of what it calls. Assumes nothing.
 use Prim.Native.Nat.{ℕ, _≤_, _<_}
 use mathlib.Core.Path.{_≡_, refl, ap, _∙_}
 use mathlib.Core.List.{List, [], _∷_}
@@ -8,11 +8,12 @@ use Rattle.ground.proofs.Choices.{pick-lt, pick-nlt}
 use Rattle.state.specs.declared.answer.Values.{Values}
 use Rattle.columns.specs.declared.Summary.{Summary}
 use Rattle.columns.specs.declared.order.Order.{Order}
+use Rattle.columns.specs.Order.{lowerNumber}
 use Rattle.columns.specs.Outcome.{valuesOf}
 use Rattle.columns.specs.Column.{Reading, readIn, Columned}
 use Rattle.capi.specs.Slots.{put}
 use Rattle.capi.specs.Calls.{badNumber}
-use Rattle.capi.specs.Columns.{lowerNumber, summaryNumbers, columnSlots, readNumbers, ColumnRead}
+use Rattle.capi.specs.Columns.{summaryNumbers, columnSlots, readNumbers, ColumnRead}
 use Rattle.capi.proofs.Puts.{put-nothing}
 
 -- the numbers written

@@ -8,16 +8,11 @@ use lib.Dec.{ltb}
 use Rattle.ground.specs.Choose.{pick}
 use Rattle.state.specs.declared.answer.Values.{Values}
 use Rattle.columns.specs.declared.order.Order.{Order}
-use Rattle.columns.specs.Order.{orderOf}
+use Rattle.columns.specs.Order.{orderOf, lowerNumber}
 use Rattle.columns.specs.Outcome.{valuesOf}
 use Rattle.columns.specs.Column.{Reading, readIn, stackLeft, filledWith}
 use Rattle.capi.specs.Slots.{put}
 use Rattle.capi.specs.Calls.{badNumber}
-
--- the first index that is lower than the one before it; 0, which has none before it, where the column never decreases
-abbrev pub lowerNumber : Order → ℕ
-lowerNumber Order.Kept = 0
-lowerNumber (Order.LowerAt i) = i
 
 -- the count, the order and the refusal, and how many slots that are
 unfoldable pub summaryNumbers : ℕ → Order → Values → List ℕ

@@ -4,20 +4,10 @@ use columns::order::Order;
 use state::answer::Values;
 ghost use mathlib.Core.Path.{_≡_};
 ghost use Rattle.capi.specs.Slots.{put as putIn};
-ghost use Rattle.capi.specs.Columns.{lowerNumber, summaryNumbers};
+ghost use Rattle.capi.specs.Columns.{summaryNumbers};
 
 // How many slots it takes.
 pub const COLUMN_SLOTS: usize = 10;
-
-// The first index that is lower than the one before it; 0, which has none before it, where the order is kept.
-fn lower_number(order: Order) -> usize
-    ensures { λ r. ⌜ r ≡ lowerNumber order ⌝ }
-{
-    match order {
-        Order::Kept => 0,
-        Order::LowerAt(i) => i,
-    }
-}
 
 // Writes the count, the order and the numbers of the refusal.
 pub fn report(answer: &mut [usize], count: usize, order: Order, values: Values)
@@ -25,7 +15,7 @@ pub fn report(answer: &mut [usize], count: usize, order: Order, values: Values)
 {
     let numbers = [
         count,
-        lower_number(order),
+        order.number(),
         values.number,
         values.place,
         values.piece.from,

@@ -1,9 +1,11 @@
 // The cases of the reader: the calls that a line makes.
+use crate::says::say_column;
 use crate::says::say_names;
 use crate::says::say_reader;
 use crate::says::say_slots;
 use crate::says::say_tally;
 use crate::says::say_values;
+use columns::column;
 use lines::line::bytes;
 use lines::line::lent;
 use lines::line::number;
@@ -41,10 +43,11 @@ const PHASES: usize = 6;
 pub fn answer(text: &[u8]) {
     let end = word(text, 0);
     let form = ground::part(text, 0, end);
-    match number_of(form, b"run;state;content") {
+    match number_of(form, b"run;state;content;column") {
         0 => run_case(text, end),
         1 => state_case(text, end),
         2 => content_case(text, end),
+        3 => column_case(text, end),
         _ => {}
     }
 }
@@ -186,4 +189,25 @@ fn content_case(text: &[u8], from: usize) {
     };
     say(content(&space[..n], span));
     put(b'\n');
+}
+
+// The times of a document. How many slots the column and the stack have, and the bytes, stand after the space at `from`.
+fn column_case(text: &[u8], from: usize) {
+    let room = number(text, from);
+    let slots = number(text, room.next);
+    let mut space = io::buffer();
+    let n = bytes(text, slots.next, &mut space);
+    let mut times = [9999usize; 16];
+    let mut stack = [0usize; 16];
+    let filled = lent(room.value, &times);
+    let lent = lent(slots.value, &stack);
+    times_of(&space[..n], &mut stack[..lent], &mut times[..filled]);
+}
+
+fn times_of(document: &[u8], stack: &mut [usize], times: &mut [usize]) {
+    let summary = column(document, stack, times);
+    say_column(summary);
+    say_slots(times);
+    say(b"  stack");
+    say_slots(stack);
 }

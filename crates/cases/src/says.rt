@@ -1,4 +1,5 @@
 // How an answer and what a call leaves are written.
+use columns::Summary;
 use lines::line::put;
 use lines::line::put_number;
 use lines::line::say;
@@ -111,4 +112,17 @@ pub fn say_tally(tallied: Tallied) {
         }
         Tallied::Refused(_) => {}
     }
+}
+
+// How many times a document has, the first index that is lower, and the refusal.
+pub fn say_column(summary: Summary) {
+    let order = summary.order;
+    let outcome = summary.outcome;
+    let numbers = [summary.count, order.number()];
+    say_numbers(b"  times #, lower #", &numbers);
+    if outcome.is_refused() {
+        put(b' ');
+        say_refusal(outcome.values());
+    }
+    say(b" |");
 }

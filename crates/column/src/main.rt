@@ -61,14 +61,11 @@ fn say_time(value: usize) {
 }
 
 fn say_order(count: usize, order: Order) {
-    match order {
-        Order::Kept => {
-            let numbers = [count];
-            say_numbers(b"# in order\n", &numbers);
-        }
-        Order::LowerAt(i) => {
-            let numbers = [count, i];
-            say_numbers(b"# lower at #\n", &numbers);
-        }
+    let lower = order.number();
+    let numbers = [count, lower];
+    if lower == 0 {
+        say_numbers(b"# in order\n", &numbers[..1]);
+    } else {
+        say_numbers(b"# lower at #\n", &numbers);
     }
 }

@@ -2,6 +2,7 @@
 use Prim.Native.Nat.{ℕ, zero, suc, _+_, _-_, _≤_, _<_}
 use mathlib.Core.Path.{_≡_, refl, sym, _∙_, subst}
 use mathlib.Core.List.{List, [], _∷_}
+use mathlib.Core.Logic.{_↔_}
 use native.Mathlib.Omega.{arith}
 use native.Mathlib.Decide.{decLt}
 use lib.ListN.{length, drop}
@@ -11,7 +12,7 @@ use Rattle.ground.specs.Least.{Nowhere, Gives}
 use Rattle.ground.proofs.First.{gives-at, gives-none}
 use Rattle.ground.proofs.Lists.{drop-next, drop-done}
 use Rattle.columns.specs.declared.order.Order.{Order}
-use Rattle.columns.specs.Order.{orderFrom, orderOf, time, Lower}
+use Rattle.columns.specs.Order.{orderFrom, orderOf, lowerNumber, time, Lower}
 
 order-first : (ts : List ℕ) → orderOf ts ≡ orderFrom 1 (time ts 0) (drop 1 ts)
 unfolding orderFrom
@@ -97,3 +98,11 @@ module _ (ts : List ℕ) where
         where
           below : time ts (suc j) < time ts j → time ts (suc j) < time ts (suc j - 1)
           below low = let e : suc j - 1 ≡ j = omega arith in rw e low
+
+  -- THEOREM: the number of the order is 0 where the column never decreases, and nowhere else
+  pub zero-is-never-decreases : (lowerNumber (orderOf ts) ≡ 0) ↔ (orderOf ts ≡ Order.Kept)
+  zero-is-never-decreases = (by (orderOf ts) refl, λ e. rw e refl)
+    where
+      by : (o : Order) → orderOf ts ≡ o → lowerNumber o ≡ 0 → o ≡ Order.Kept
+      by Order.Kept e z = refl
+      by (Order.LowerAt i) e z = absurd (omega (arith, the-index-is-the-first-that-is-lower .found i .0 e .has .0))

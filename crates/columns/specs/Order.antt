@@ -16,6 +16,11 @@ abbrev pub orderOf : List ℕ → Order
 orderOf [] = Order.Kept
 orderOf (t ∷ ts) = orderFrom 1 t ts
 
+-- the order as a number: the index; 0, which has none before it, where the column never decreases
+abbrev pub lowerNumber : Order → ℕ
+lowerNumber Order.Kept = 0
+lowerNumber (Order.LowerAt i) = i
+
 -- ---- the same in words
 
 -- the time with the index i
