@@ -47,7 +47,7 @@ module _ (doc stack column answer : List ℕ) where
         said = pick-nlt _ _ _ _ _ l (ap (λ (x : Values). x .number) w);
         names = pick-nlt _ _ _ _ _ l (c .names);
         times = pick-nlt _ _ _ _ _ l (c .slots);
-        slots = rw (← c .times, ← c .order, ← w) f;
+        slots = rw (← c .count, ← c .order, ← w) f;
       }
 
 pub ruleset columns = (needs, summary-put, column-not, column-done)

@@ -1,4 +1,5 @@
 pub mod Answers
+pub mod Ordered
 pub mod Orders
 pub mod Texts
 pub mod Times

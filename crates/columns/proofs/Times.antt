@@ -11,7 +11,8 @@ use lib.Seq.{ext-getD}
 use lib.Dec.{eqb, leb}
 use borrow.Author.Tests.{eqb-true, leb-true, le-leb}
 use Rattle.ground.proofs.Choices.{both}
-use Rattle.columns.specs.Time.{colon, isDigit, twoDigits, byte, isClock, hours, minutes, isTime, value, speltAt, spelt, Before}
+use Rattle.columns.specs.Time.{colon, isDigit, twoDigits, byte, isClock, hours, minutes, isTime, value, speltAt, spelt}
+use Rattle.columns.specs.Words.{Before}
 
 -- what a digit's test says
 digit-range : (b : ℕ) → isDigit b ≡ true → (0x30 ≤ b) × (b ≤ 0x39)
@@ -114,17 +115,18 @@ module _ (v : ℕ) (low : v ≤ 2879) where
   unfolding isTime isClock twoDigits speltAt
   a-value-is-printed-as-its-time =
       let h : 10 * (0x30 + v / 60 / 10 % 10 - 0x30) + (0x30 + v / 60 % 10 - 0x30) ≤ 47 = omega arith in
-      let m : 10 * (0x30 + v % 60 / 10 - 0x30) + (0x30 + v % 60 % 10 - 0x30) ≤ 59 = omega arith in
-      (rw (
-        digit-spelt (v / 60 / 10 % 10) (omega arith),
-        digit-spelt (v / 60 % 10) (omega arith),
-        digit-spelt (v % 60 / 10) (omega arith),
-        digit-spelt (v % 60 % 10) (omega arith),
-        le-leb (10 * (0x30 + v / 60 / 10 % 10 - 0x30) + (0x30 + v / 60 % 10 - 0x30)) 47 h,
-        le-leb (10 * (0x30 + v % 60 / 10 - 0x30) + (0x30 + v % 60 % 10 - 0x30)) 59 m,
+      let m : 10 * (0x30 + v % 60 / 10 - 0x30) + (0x30 + v % 60 % 10 - 0x30) ≤ 59 = omega arith in (
+        rw (
+          digit-spelt (v / 60 / 10 % 10) (omega arith),
+          digit-spelt (v / 60 % 10) (omega arith),
+          digit-spelt (v % 60 / 10) (omega arith),
+          digit-spelt (v % 60 % 10) (omega arith),
+          le-leb (10 * (0x30 + v / 60 / 10 % 10 - 0x30) + (0x30 + v / 60 % 10 - 0x30)) 47 h,
+          le-leb (10 * (0x30 + v % 60 / 10 - 0x30) + (0x30 + v % 60 % 10 - 0x30)) 59 m,
+        )
+            refl,
+        omega arith,
       )
-      refl,
-      omega arith)
 
 -- THEOREM: so a time that is read is printed as it stood
 pub a-time-is-printed-as-it-stood : (a : List ℕ) → isTime a ≡ true → spelt (value a) ≡ a

@@ -182,7 +182,7 @@ read-to : (doc stack₀ column₀ : List ℕ) (f : Filled) (stack column : List 
     → ReadTo doc stack₀ column₀ f stack column
 read-to doc stack₀ column₀ f stack column r calls e n t s =
     record {
-      times = s .times ∙ ap (λ (x : Reading). length (x .times)) e;
+      count = s .times ∙ ap (λ (x : Reading). length (x .times)) e;
       refusal = s .outcome ∙ ap (λ (x : Reading). x .outcome) e;
       slots = s .slots ∙ ap (λ (x : Reading). filledWith (x .times) column₀) e;
       names = t ∙ ap (λ (k : ℕ). run doc stack₀ defaults k .stack) n;
@@ -314,7 +314,7 @@ module _ (doc stack column : List ℕ) (m : Made) (c : Config) (given : c ≡ de
   unfolding readIn stackLeft
   columned-not x is =
       let f : made (length doc) defaults ≡ Made.Refused x = ap (made (length doc)) (sym given) ∙ sym e ∙ is in
-      record { times = rw f refl; refusal = rw f refl; order = rw f refl; slots = rw f refl; names = rw f refl }
+      record { count = rw f refl; refusal = rw f refl; order = rw f refl; slots = rw f refl; names = rw f refl }
 
   module _ (r : Reader) (is : m ≡ Made.Fresh r) (f : Filled) (stack' column' : List ℕ) (p : ReadTo doc stack column f stack' column') where
     pub columned : (o : Order) → o ≡ orderOf (take (f .count) column') → Columned doc stack column (record { count = f .count; outcome = f .outcome; order = o }) stack' column'
@@ -322,9 +322,9 @@ module _ (doc stack column : List ℕ) (m : Made) (c : Config) (given : c ≡ de
     columned o eo =
         let g = made-fresh r is in
         let t : take (f .count) column' ≡ readOf doc (length column) (answersOf doc stack) .times =
-        rw (p .times, p .slots) (take-append-seam _ _) in
+        rw (p .count, p .slots) (take-append-seam _ _) in
         record {
-          times = rw g (p .times);
+          count = rw g (p .count);
           refusal = rw g (p .refusal);
           order = rw g (eo ∙ ap orderOf t);
           slots = rw g (p .slots);
@@ -333,7 +333,7 @@ module _ (doc stack column : List ℕ) (m : Made) (c : Config) (given : c ≡ de
 
 pub times-fit : (doc stack column : List ℕ) (f : Filled) (stack' column' : List ℕ) → ReadTo doc stack column f stack' column' → f .count ≤ length column'
 times-fit doc stack column f stack' column' p =
-    rw (p .times, p .slots) (omega (arith, length-append (readOf doc (length column) (answersOf doc stack) .times) (drop (length (readOf doc (length column) (answersOf doc stack) .times)) column)))
+    rw (p .count, p .slots) (omega (arith, length-append (readOf doc (length column) (answersOf doc stack) .times) (drop (length (readOf doc (length column) (answersOf doc stack) .times)) column)))
 
 pub times-count : (doc stack column : List ℕ) (f : Filled) (stack' column' : List ℕ) → ReadTo doc stack column f stack' column'
     → f .count ≡ length (take (f .count) column')

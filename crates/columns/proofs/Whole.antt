@@ -21,7 +21,7 @@ use Rattle.state.specs.Limits.{longest}
 use Rattle.state.specs.Make.{refusal, made}
 use Rattle.state.specs.Place.{at, span}
 use Rattle.state.specs.Settings.{defaults}
-use Rattle.state.specs.Values.{kindNumber, valuesOf}
+use Rattle.state.specs.Values.{kindNumber}
 use Rattle.reader.specs.Names.{bytes}
 use Rattle.demands.specs.Run.{World, said, call, run}
 use Rattle.demands.specs.Answers.{isEof, latestIs}
@@ -32,11 +32,12 @@ use Rattle.columns.specs.declared.text.Text.{Text}
 use Rattle.columns.specs.declared.told.Told.{Told}
 use Rattle.columns.specs.declared.outcome.Outcome.{Outcome}
 use Rattle.columns.specs.Time.{isTime, value, cleared, readTime}
-use Rattle.columns.specs.Order.{time, Lower}
+use Rattle.columns.specs.Order.{time}
 use Rattle.columns.specs.Outcome.{isRefused}
 use Rattle.columns.specs.Told.{isKind, within, textToldAs, textTells, eventTells, tells}
-use Rattle.columns.specs.Column.{Reading, reading, onward, readOf, callsOf, answersOf, readIn, filledWith, Columned, timeIn, timesTold, Stops, toldIn, StoppedBy}
-use Rattle.columns.proofs.Orders.{the-index-is-the-first-that-is-lower, kept-order-never-decreases}
+use Rattle.columns.specs.Column.{Reading, reading, onward, readOf, callsOf, answersOf, readIn, filledWith, Columned, toldIn}
+use Rattle.columns.specs.Words.{Lower, Gave, none, one, refuses, Timed, timeIn, timesTold, Stops, StoppedBy}
+use Rattle.columns.proofs.Ordered.{the-index-is-the-first-that-is-lower, kept-order-never-decreases}
 use Rattle.columns.proofs.Turns.{heard, asked, heard-next, heard-over, asked-next, asked-over}
 
 -- ---- the promise leaves one answer
@@ -51,7 +52,7 @@ same-summary s s′ c o d =
 pub only-one : (doc stack column : List ℕ) (s s′ : Summary) (stack' stack″ column' column″ : List ℕ) → Columned doc stack column s stack' column'
     → Columned doc stack column s′ stack″ column″ → (s ≡ s′) × (stack' ≡ stack″) × (column' ≡ column″)
 only-one doc stack column s s′ stack' stack″ column' column″ p q = (
-  same-summary s s′ (p .times ∙ sym (q .times)) (p .refusal ∙ sym (q .refusal)) (p .order ∙ sym (q .order)),
+  same-summary s s′ (p .count ∙ sym (q .count)) (p .refusal ∙ sym (q .refusal)) (p .order ∙ sym (q .order)),
   p .names ∙ sym (q .names),
   p .slots ∙ sym (q .slots),
 )
@@ -61,12 +62,6 @@ only-one doc stack column s s′ stack' stack″ column' column″ p q = (
 empty-text : (s : List ℕ) → eqb (length s) 0 ≡ true → s ≡ []
 empty-text [] e = refl
 empty-text (b ∷ s) e = let z : suc (length s) ≡ 0 = eqb-true (suc (length s)) 0 e in absurd (omega arith)
-
--- what a text gives
-pub data Gave (text : List ℕ) (piece : Span) (t : Told) : Type 0 where
-  none : cleared text ≡ [] → t ≡ Told.Nothing → Gave text piece t
-  one : isTime (cleared text) ≡ true → t ≡ Told.Time (value (cleared text)) piece → Gave text piece t
-  refuses : isTime (cleared text) ≡ false → t ≡ Told.Refused (Outcome.BadTime piece) → Gave text piece t
 
 gave : (text : List ℕ) (piece : Span) (empty is : Bool) → eqb (length (cleared text)) 0 ≡ empty → isTime (cleared text) ≡ is
     → Gave text piece (textToldAs piece (pick empty Text.Empty (pick is (Text.Time (value (cleared text))) Text.Other)))
@@ -78,14 +73,6 @@ gave text piece false false e f = refuses f refl
 pub each-text-gives-a-value-none-or-the-refusal : (text : List ℕ) (piece : Span) → Gave text piece (textTells text piece)
 unfolding textTells readTime
 each-text-gives-a-value-none-or-the-refusal text piece = gave text piece (eqb (length (cleared text)) 0) (isTime (cleared text)) refl refl
-
--- the answer that tells a time
-pub record Timed (doc : List ℕ) (names : List Span) (a : Answer) (v : ℕ) (piece : Span) : Type 0 where
-  pub text : valuesOf a .kind ≡ kindNumber Kind.Text
-  pub inside : within doc names ≡ true
-  pub is : isTime (cleared (bytes doc (valuesOf a .content))) ≡ true
-  pub worth : v ≡ value (cleared (bytes doc (valuesOf a .content)))
-  pub place : piece ≡ valuesOf a .piece
 
 module _ (doc : List ℕ) (names : List Span) (v : ℕ) (piece : Span) where
   no-time : {A : Type 0} → Told.Nothing ≡ Told.Time v piece → A
@@ -334,12 +321,12 @@ module _ (doc stack column : List ℕ) (s : Summary) (stack' column' : List ℕ)
 
   -- THEOREM: the slots up to the count are the times, in their order
   pub the-first-slots-are-the-times : (i : ℕ) → i < s .count → getD column' i 0 ≡ time times i
-  the-first-slots-are-the-times i l = ap (λ (c : List ℕ). getD c i 0) (p .slots) ∙ List·getD-append times (drop (length times) column) 0 i (omega (arith, p .times))
+  the-first-slots-are-the-times i l = ap (λ (c : List ℕ). getD c i 0) (p .slots) ∙ List·getD-append times (drop (length times) column) 0 i (omega (arith, p .count))
 
   -- THEOREM: "later slots are unchanged"
   pub later-slots-are-unchanged : (i : ℕ) → s .count ≤ i → getD column' i 0 ≡ getD column i 0
   later-slots-are-unchanged i l =
-      let k : length times + (i - length times) ≡ i = omega (arith, p .times) in
+      let k : length times + (i - length times) ≡ i = omega (arith, p .count) in
       ap (λ (c : List ℕ). getD c i 0) (p .slots)
       ∙ ap (λ (j : ℕ). getD (filledWith times column) j 0) (sym k)
       ∙ getD-append-add times (drop (length times) column) (i - length times) 0
@@ -350,7 +337,7 @@ module _ (doc stack column : List ℕ) (s : Summary) (stack' column' : List ℕ)
   pub the-column-never-decreases : s .order ≡ Order.Kept → (i j : ℕ) → i < j → j < s .count → getD column' i 0 ≤ getD column' j 0
   the-column-never-decreases e i j l h =
       rw (the-first-slots-are-the-times i (omega arith), the-first-slots-are-the-times j h)
-      (kept-order-never-decreases times (sym (p .order) ∙ e) i j l (omega (arith, p .times)))
+      (kept-order-never-decreases times (sym (p .order) ∙ e) i j l (omega (arith, p .count)))
 
   -- THEOREM: else the index given is the first whose time is lower than the one before it
   pub the-index-given-is-the-first : Gives Order.LowerAt (s .order) (Lower times)

@@ -1,7 +1,6 @@
 -- The column that the answers of a run tell, and THE PROMISE of `column` (document 02, M-111).
-use Prim.Native.Nat.{ℕ, suc, _+_, _<_}
+use Prim.Native.Nat.{ℕ, suc, _+_}
 use mathlib.Core.Path.{_≡_}
-use mathlib.Core.Bool.{true}
 use mathlib.Core.List.{List, [], _∷_, _++_}
 use lib.ListN.{length, drop}
 use lib.Dec.{ltb}
@@ -33,6 +32,10 @@ onward room r Told.Nothing = r
 onward room r (Told.Time value piece) =
     pick (ltb (length (r .times)) room) (reading (r .times ++ (value ∷ [])) (r .outcome)) (reading (r .times) (Outcome.ColumnFull piece))
 onward room r (Told.Refused outcome) = reading (r .times) outcome
+
+-- what the next call tells
+abbrev pub toldIn : List ℕ → World → Told
+toldIn doc w = tells doc (leftOpen (said doc w ∷ w .answers)) (said doc w)
 
 module _ (doc : List ℕ) (room : ℕ) where
   -- what answers tell, of which the latest stands first: the first refusal from the left ends the reading
@@ -73,37 +76,8 @@ filledWith times column = times ++ drop (length times) column
 
 -- THE PROMISE: the count, the refusal, the order, every slot of the column and every slot of the stack
 pub record Columned (doc stack column : List ℕ) (answer : Summary) (stack' column' : List ℕ) : Type 0 where
-  pub times : answer .count ≡ length (readIn doc stack (length column) .times)
+  pub count : answer .count ≡ length (readIn doc stack (length column) .times)
   pub refusal : answer .outcome ≡ readIn doc stack (length column) .outcome
   pub order : answer .order ≡ orderOf (readIn doc stack (length column) .times)
   pub slots : column' ≡ filledWith (readIn doc stack (length column) .times) column
   pub names : stack' ≡ stackLeft doc stack (length column)
-
--- ---- the same in words
-
--- the times that answers tell, in their order, whatever the column holds
-abbrev pub timeIn : Told → List ℕ
-timeIn Told.Nothing = []
-timeIn (Told.Time value piece) = value ∷ []
-timeIn (Told.Refused outcome) = []
-
-unfoldable pub timesTold : List ℕ → List Answer → List ℕ
-timesTold doc [] = []
-timesTold doc (a ∷ before) = timesTold doc before ++ timeIn (tells doc (leftOpen (a ∷ before)) a)
-
--- an answer stops a reading of these times: it refuses, or tells one more time than there is room for
-abbrev pub Stops : ℕ → List ℕ → Told → Outcome → Type 0
-Stops room times Told.Nothing outcome = ⊥
-Stops room times (Told.Time value piece) outcome = (length times ≡ room) × (outcome ≡ Outcome.ColumnFull piece)
-Stops room times (Told.Refused why) outcome = (isRefused why ≡ true) × (outcome ≡ why)
-
--- what the next call tells
-abbrev pub toldIn : List ℕ → World → Told
-toldIn doc w = tells doc (leftOpen (said doc w ∷ w .answers)) (said doc w)
-
--- "the first from the left": call n + 1 stops the reading, and none before it does
-pub record StoppedBy (doc stack : List ℕ) (room : ℕ) (r : Reading) (n : ℕ) : Type 0 where
-  pub times : r .times ≡ timesTold doc (run doc stack defaults n .answers)
-  pub stops : Stops room (r .times) (toldIn doc (run doc stack defaults n)) (r .outcome)
-  pub before : (k : ℕ) (outcome : Outcome) → k < n → Stops room (timesTold doc (run doc stack defaults k .answers)) (toldIn doc (run doc stack defaults k)) outcome → ⊥
-  pub calls : callsOf doc room (answersOf doc stack) ≡ suc n

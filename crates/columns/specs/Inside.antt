@@ -26,7 +26,7 @@ slotsBy column count (Told.Refused outcome) = column
 
 -- a document within the limit, read to its end or to a refusal
 pub record ReadTo (doc stack column : List ℕ) (filled : Filled) (stack' column' : List ℕ) : Type 0 where
-  pub times : filled .count ≡ length (readOf doc (length column) (answersOf doc stack) .times)
+  pub count : filled .count ≡ length (readOf doc (length column) (answersOf doc stack) .times)
   pub refusal : filled .outcome ≡ readOf doc (length column) (answersOf doc stack) .outcome
   pub slots : column' ≡ filledWith (readOf doc (length column) (answersOf doc stack) .times) column
   pub names : stack' ≡ run doc stack defaults (callsOf doc (length column) (answersOf doc stack)) .stack

@@ -5,3 +5,4 @@ pub mod Told
 pub mod Column
 pub mod Inside
 pub mod Table
+pub mod Words

@@ -1,7 +1,7 @@
 -- Whether times never decrease (document 02, M-111).
-use Prim.Native.Nat.{ℕ, _+_, _-_, _≤_, _<_}
+use Prim.Native.Nat.{ℕ, _+_, _-_}
 use mathlib.Core.List.{List, [], _∷_}
-use lib.ListN.{length, getD}
+use lib.ListN.{getD}
 use lib.Dec.{ltb}
 use Rattle.ground.specs.Choose.{pick}
 use Rattle.columns.specs.declared.order.Order.{Order}
@@ -21,12 +21,6 @@ abbrev pub lowerNumber : Order → ℕ
 lowerNumber Order.Kept = 0
 lowerNumber (Order.LowerAt i) = i
 
--- ---- the same in words
-
 -- the time with the index i
 abbrev pub time : List ℕ → ℕ → ℕ
 time ts i = getD ts i 0
-
--- it is lower than the one before it
-abbrev pub Lower : List ℕ → ℕ → Type 0
-Lower ts i = (1 ≤ i) × (i < length ts) × (time ts i < time ts (i - 1))

@@ -1,7 +1,5 @@
 -- The text of a time (document 02, M-111).
-use Prim.Native.Nat.{ℕ, _+_, _-_, _*_, _/_, _%_, _<_}
-use mathlib.Core.Path.{_≡_}
-use mathlib.Core.Logic.{_⊎_}
+use Prim.Native.Nat.{ℕ, _+_, _-_, _*_, _/_, _%_}
 use mathlib.Core.List.{List, [], _∷_}
 use mathlib.Core.Bool.{Bool, false}
 use lib.ListN.{length, getD, take, drop}
@@ -74,9 +72,3 @@ speltAt v place =
 
 abbrev pub spelt : ℕ → List ℕ
 spelt v = speltAt v 0 ∷ speltAt v 1 ∷ speltAt v 2 ∷ speltAt v 3 ∷ speltAt v 4 ∷ []
-
--- ---- the order of the day in words
-
--- one time comes before another: by its hours, and in the same hour by its minutes
-abbrev pub Before : List ℕ → List ℕ → Type 0
-Before a b = (hours a < hours b) ⊎ ((hours a ≡ hours b) × (minutes a < minutes b))

@@ -14,7 +14,7 @@ use Rattle.reader.specs.Names.{bytes}
 use Rattle.columns.specs.declared.text.Text.{Text}
 use Rattle.columns.specs.declared.told.Told.{Told}
 use Rattle.columns.specs.declared.outcome.Outcome.{Outcome}
-use Rattle.columns.specs.Time.{readTime}
+use Rattle.columns.specs.Time.{value, readTime}
 
 -- `t`
 abbrev pub tName : List ℕ

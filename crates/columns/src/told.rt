@@ -5,7 +5,6 @@ use crate::text::Text;
 use crate::text::read_time;
 use reader::content;
 use state::answer::Answer;
-use state::answer::Event;
 use state::answer::Kind;
 use state::place::Depth;
 use state::place::Span;
@@ -15,7 +14,7 @@ ghost use lib.ListN.{length};
 ghost use Rattle.state.specs.Limits.{slots};
 ghost use Rattle.demands.specs.Answers.{isEof};
 ghost use Rattle.demands.specs.Open.{entries};
-ghost use Rattle.columns.specs.Told.{textTells, eventTells, tells as tellsOf};
+ghost use Rattle.columns.specs.Told.{textTells, tells as tellsOf};
 ghost use Rattle.columns.specs.Inside.{filledBy, slotsBy};
 
 // What an answer tells.
@@ -42,40 +41,34 @@ pub fn is_eof(answer: Answer) -> bool
     values.kind == eof.number()
 }
 
-// What an answer tells, with `depth` names open.
+// What an answer tells, with `depth` names open: text and references tell something where the latest of these is `t`, and so does every refusal.
 pub fn tells(document: &[u8], stack: &[usize], depth: Depth, answer: Answer) -> Told
     requires { ⌜ depth .0 * slots ≤ length (now stack) ⌝ }
     ensures { λ r. ⌜ r ≡ tellsOf (now (document .entry)) (entries (now (stack .entry)) (depth .0)) answer ⌝ }
 {
     match answer {
-        Answer::Event(event) => event_tells(document, stack, depth, event),
         Answer::Refused(refusal) => Told::Refused(Outcome::Refused(refusal)),
-    }
-}
-
-// What an event tells: text and references tell something where the latest open name is `t`.
-fn event_tells(document: &[u8], stack: &[usize], depth: Depth, event: Event) -> Told
-    requires { ⌜ depth .0 * slots ≤ length (now stack) ⌝ }
-    ensures { λ r. ⌜ r ≡ eventTells (now (document .entry)) (entries (now (stack .entry)) (depth .0)) event ⌝ }
-{
-    let kind = event.kind;
-    let number = kind.number();
-    let piece = event.piece;
-    let span = event.content;
-    let text = Kind::Text;
-    if number == text.number() {
-        if within(document, stack, depth) {
-            return text_tells(content(document, span), piece);
-        }
-        return Told::Nothing;
-    }
-    let reference = Kind::GeneralRef;
-    if number == reference.number() {
-        if within(document, stack, depth) {
-            return Told::Refused(Outcome::BadTime(piece));
+        Answer::Event(event) => {
+            let kind = event.kind;
+            let number = kind.number();
+            let piece = event.piece;
+            let span = event.content;
+            let text = Kind::Text;
+            if number == text.number() {
+                if within(document, stack, depth) {
+                    return text_tells(content(document, span), piece);
+                }
+                return Told::Nothing;
+            }
+            let reference = Kind::GeneralRef;
+            if number == reference.number() {
+                if within(document, stack, depth) {
+                    return Told::Refused(Outcome::BadTime(piece));
+                }
+            }
+            Told::Nothing
         }
     }
-    Told::Nothing
 }
 
 // What the text of a piece tells.

@@ -8,7 +8,17 @@ tells-spec =
     tie.close
     (tie.spec
     (λ c. search events)
+    (λ c. search events)
     (λ c κs. search events)
+    (λ c κs. search events)
+    (λ c κs. search events)
+    (λ c κs. search events)
+    (λ c κs. search events)
+    (λ c. search events)
+    (λ c. search events)
+    (λ c κs. search events)
+    (λ c κs. search events)
+    (λ c. search events)
     (λ c. search events)
     (λ c. search events)
     (λ c. search events))
