@@ -1,6 +1,6 @@
-/* Sporebasket: a verified reader of XML events. Link libcapi.a, which `tools/host-staticlib capi` makes.
+/* Sporebasket: a verified reader of XML events, and of columns of times. Link libcapi.a, which `tools/host-staticlib capi` makes.
  *
- * The host lends all memory: the document, a stack for the open names, the state of a reader and room for an answer. Nothing is kept between
+ * The host lends all memory: the document, a stack for the open names, the state of a reader, a column and room for an answer. Nothing is kept between
  * calls but what stands there, so each thread may have a reader of its own, over one document too. Every function but
  * sporebasket_default_settings answers 0 or the number of a refusal, and asks nothing of the numbers that it is lent: whatever they are, the
  * answer is the one that docs/PROMISES.md states. It asks of C what C cannot be asked to check: a pointer is to as many bytes or slots as its
@@ -96,8 +96,26 @@ enum {
     SPOREBASKET_PART_SLOTS
 };
 
+/* The slots of the answer of sporebasket_column. COUNT is how many times stand in the column, LOWER the first index, from 0, whose time is lower than the one
+ * before it, or 0 where the column never decreases: index 0 has none before it. The others are 0 where nothing is refused; else they are those of the refusal, as
+ * sporebasket_read_event gives them. The piece of 30 and 31 is that of the text or the reference, and PLACE its start; EXPECTED and FOUND are 0 there. */
+enum {
+    SPOREBASKET_COLUMN_COUNT,
+    SPOREBASKET_COLUMN_LOWER,
+    SPOREBASKET_COLUMN_NUMBER,
+    SPOREBASKET_COLUMN_PLACE,
+    SPOREBASKET_COLUMN_PIECE_FROM,
+    SPOREBASKET_COLUMN_PIECE_TO,
+    SPOREBASKET_COLUMN_EXPECTED_FROM,
+    SPOREBASKET_COLUMN_EXPECTED_TO,
+    SPOREBASKET_COLUMN_FOUND_FROM,
+    SPOREBASKET_COLUMN_FOUND_TO,
+    SPOREBASKET_COLUMN_SLOTS
+};
+
 /* The refusals. 18 is given where end of file is due, CHECK_OPEN_NAMES is on, a name is open and the MARK is off. So it comes once, instead of the first end of
- * file, and not after a refusal that ended the run (1 to 8, 13 to 15). Its piece is that of the end of file, and it takes no name away; end of file follows. */
+ * file, and not after a refusal that ended the run (1 to 8, 13 to 15). Its piece is that of the end of file, and it takes no name away; end of file follows.
+ * 30 and 31 are of sporebasket_column alone. */
 enum {
     SPOREBASKET_UNCLOSED_TAG = 1,
     SPOREBASKET_UNCLOSED_SINGLE_QUOTED_ATTRIBUTE_VALUE,
@@ -116,7 +134,9 @@ enum {
     SPOREBASKET_NAME_STACK_FULL,
     SPOREBASKET_SLICE_TOO_LONG,
     SPOREBASKET_BAD_STATE,
-    SPOREBASKET_UNCLOSED_ELEMENTS
+    SPOREBASKET_UNCLOSED_ELEMENTS,
+    SPOREBASKET_BAD_TIME = 30,
+    SPOREBASKET_COLUMN_FULL
 };
 
 /* A document has at most this many bytes, and at most this many names are open, each in two slots of the stack; a longer stack holds no more. */
@@ -144,6 +164,20 @@ size_t sporebasket_read_event(const uint8_t *document, size_t length, size_t *st
 /* Where the bytes of a span stand in the document: the slots of `part` are its start and its end, or both are the document's end if the
  * span does not lie in it. 17: the part has too few slots, and nothing is written. */
 size_t sporebasket_content(const uint8_t *document, size_t length, size_t from, size_t to, size_t *part, size_t part_slots);
+
+/* Reads the times of a timetable's column: goes through the whole document with the default settings, and fills the column with the times of its texts within
+ * `t`, in the order of the document. A text is within `t` where the latest open name is `t`. White space at both its ends does not count; where nothing else is
+ * there, the text is passed over. A time is two digits, a colon and two digits, hours 00 to 47 and minutes 00 to 59. Its slot has 60 times the hours plus the
+ * minutes: 24:10 is 1450, and follows 23:50, which is 1430. Text that is no time and a reference within `t` are 30; comments, CDATA sections and all else are
+ * passed over.
+ * It answers 0, or the number of the first refusal, which ends the reading: one of sporebasket_read_event, be it one after which a reader could go on, 30, or 31
+ * where the column is full and one more time stands there (text that is no time is 30 there too). The times before it stay in the column, and COUNT and LOWER are
+ * theirs. Slots of the column past COUNT are left alone, and the stack is left as the reader's calls leave it. 16: the document is too long, and nothing but the
+ * answer is written; 17: the answer has too few slots, and nothing is written.
+ * Where the stack (15) or the column (31) was too short, lend a longer one and call again: the document is then read from its start. No column needs more slots than
+ * a fifth of the document's bytes, since a time has five. */
+size_t sporebasket_column(const uint8_t *document, size_t length, size_t *stack, size_t stack_slots, size_t *column, size_t column_slots,
+                          size_t *answer, size_t answer_slots);
 
 #ifdef __cplusplus
 }

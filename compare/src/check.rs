@@ -2,6 +2,8 @@
 
 use crate::listed;
 use crate::ours::*;
+use crate::run::Runs;
+use crate::shrink::Kept;
 use crate::summary::Tally;
 use crate::theirs::{Seen, Theirs, THEIR_DOCTYPE};
 use quick_xml::utils::is_whitespace;
@@ -121,6 +123,36 @@ pub struct Bench<E> {
     answer: [usize; ANSWER_SLOTS + MARGIN],
 }
 
+impl<E: Engine> Runs for Bench<E> {
+    type Case<'a> = Case<'a>;
+    type Kept = Kept;
+    type Tally = Tally;
+    /// Whether names are open at the end.
+    type Told = bool;
+
+    /// Runs a case to its second Eof, or to where it leaves the domain of equality.
+    fn run(&mut self, case: &Case, tally: &mut Tally) -> Result<bool, Difference> {
+        tally.inputs += 1;
+        let result = self.steps(case, tally);
+        self.wipe(case, result.is_err());
+        result
+    }
+
+    fn reset(&mut self) {
+        self.stack.fill(CANARY);
+        self.shadow.fill(CANARY);
+        self.most = 0;
+    }
+
+    fn kept(case: &Case) -> Kept {
+        Kept::of(case)
+    }
+
+    fn length(kept: &Kept) -> usize {
+        kept.document.len()
+    }
+}
+
 impl<E: Engine> Bench<E> {
     pub fn new(engine: E) -> Self {
         Self {
@@ -132,14 +164,6 @@ impl<E: Engine> Bench<E> {
             state: [CANARY; STATE_SLOTS + MARGIN],
             answer: [CANARY; ANSWER_SLOTS + MARGIN],
         }
-    }
-
-    /// Runs a case to its second Eof, or to where it leaves the domain of equality: whether names are open there.
-    pub fn run(&mut self, case: &Case, tally: &mut Tally) -> Result<bool, Difference> {
-        tally.inputs += 1;
-        let result = self.steps(case, tally);
-        self.wipe(case, result.is_err());
-        result
     }
 
     fn steps(&mut self, case: &Case, tally: &mut Tally) -> Result<bool, Difference> {
@@ -238,13 +262,6 @@ impl<E: Engine> Bench<E> {
             self.stack.resize(slots + MARGIN, CANARY);
             self.shadow.resize(slots + MARGIN, CANARY);
         }
-    }
-
-    /// As new, after a case that did not come back.
-    pub fn reset(&mut self) {
-        self.stack.fill(CANARY);
-        self.shadow.fill(CANARY);
-        self.most = 0;
     }
 
     /// Puts the canaries back.

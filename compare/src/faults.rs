@@ -2,7 +2,8 @@
 
 mod list;
 
-use crate::inputs::{self, Amount, Family};
+use crate::check::Bench;
+use crate::inputs::{self, Amount};
 use crate::ours::*;
 use crate::run::Worker;
 use std::sync::atomic::{AtomicUsize, Ordering::Relaxed};
@@ -199,35 +200,20 @@ impl Engine for Faulty {
     }
 }
 
-/// Runs the quick inputs until a fault is noticed: after how many inputs, by which family.
-fn notice(fault: &'static Fault, families: &[Family]) -> Option<(u64, &'static str)> {
-    let mut worker = Worker::new(Faulty { fault, last_place: 0, last_number: 0, eofs: 0 }, true);
-    for family in families {
-        for job in 0..family.jobs {
-            if worker.job(family, job).is_break() {
-                return Some((worker.tally.inputs, family.name));
-            }
-        }
-    }
-    None
-}
-
-/// Tries every fault: true if all are noticed.
-pub fn run(seed: u64) -> bool {
-    let faults: Vec<&'static Fault> = list::ALL.iter().copied().flatten().collect();
-    let families = inputs::all(Amount::Quick, seed);
+/// Tries every fault on two threads: how many are noticed, after how many inputs each and by which family.
+pub fn all_of<F: Sync>(faults: &[F], name: fn(&F) -> &'static str, notice: impl Fn(&F) -> Option<(u64, &'static str)> + Sync) -> usize {
     let next = AtomicUsize::new(0);
     let noticed = Mutex::new(0);
     let work = || {
         while let Some(fault) = faults.get(next.fetch_add(1, Relaxed)) {
-            let result = notice(fault, &families);
+            let result = notice(fault);
             let mut noticed = noticed.lock().unwrap();
             match result {
                 Some((inputs, family)) => {
                     *noticed += 1;
-                    println!("noticed after {inputs} inputs, by \"{family}\": {}", fault.name);
+                    println!("noticed after {inputs} inputs, by \"{family}\": {}", name(fault));
                 }
-                None => println!("NOT noticed: {}", fault.name),
+                None => println!("NOT noticed: {}", name(fault)),
             }
         }
     };
@@ -235,7 +221,15 @@ pub fn run(seed: u64) -> bool {
         scope.spawn(work);
         scope.spawn(work);
     });
-    let noticed = noticed.into_inner().unwrap();
+    noticed.into_inner().unwrap()
+}
+
+/// Tries every fault by the quick inputs: true if all are noticed.
+pub fn run(seed: u64) -> bool {
+    let faults: Vec<&'static Fault> = list::ALL.iter().copied().flatten().collect();
+    let families = inputs::all(Amount::Quick, seed);
+    let faulty = |fault| Faulty { fault, last_place: 0, last_number: 0, eofs: 0 };
+    let noticed = all_of(&faults, |fault| fault.name, |&fault| Worker::new(Bench::new(faulty(fault)), true).notice(&families));
     println!("compare: {noticed} of {} faults noticed", faults.len());
     noticed == faults.len()
 }

@@ -1,8 +1,9 @@
-//! Compares Sporebasket with quick-xml 0.42.0, call by call. See `tools/compare` and `tools/record`.
+//! Compares Sporebasket with quick-xml 0.42.0, call by call, and its column reader with an account over quick-xml's events. See `tools/compare` and `tools/record`.
 
 #![forbid(unsafe_code)]
 
 mod check;
+mod columns;
 mod faults;
 mod inputs;
 mod listed;
@@ -20,24 +21,27 @@ use inputs::Amount;
 use std::path::PathBuf;
 use std::process::ExitCode;
 
-const USAGE: &str = "usage: compare [--quick | --faults | --record FOLDER] [--seed N] [FILE..]";
+const USAGE: &str = "usage: compare [--columns] [--quick | --faults | --record FOLDER] [--seed N] [FILE..]";
 
 struct Wish {
     amount: Amount,
     seed: u64,
     files: Vec<PathBuf>,
+    /// The column reader alone.
+    columns: bool,
     tags: bool,
     faults: bool,
     record: Option<PathBuf>,
 }
 
 fn wish() -> Option<Wish> {
-    let mut wish = Wish { amount: Amount::Full, seed: 1, files: Vec::new(), tags: false, faults: false, record: None };
+    let mut wish = Wish { amount: Amount::Full, seed: 1, files: Vec::new(), columns: false, tags: false, faults: false, record: None };
     let mut arguments = std::env::args_os().skip(1);
     while let Some(argument) = arguments.next() {
         match argument.to_str().unwrap_or_default() {
             "--quick" => wish.amount = Amount::Quick,
             "--seed" => wish.seed = arguments.next()?.to_str()?.parse().ok()?,
+            "--columns" => wish.columns = true,
             "--tags" => wish.tags = true,
             "--faults" => wish.faults = true,
             "--record" => wish.record = Some(arguments.next()?.into()),
@@ -59,7 +63,8 @@ fn main() -> ExitCode {
         return ExitCode::SUCCESS;
     }
     if wish.faults {
-        return ExitCode::from(!faults::run(wish.seed) as u8);
+        let noticed = wish.columns || faults::run(wish.seed);
+        return ExitCode::from(!(columns::faults(wish.seed) && noticed) as u8);
     }
     if let Some(folder) = wish.record {
         return match record::record(&folder, wish.seed) {
@@ -73,6 +78,7 @@ fn main() -> ExitCode {
     compare(wish)
 }
 
+/// The reader and the column reader, or the second alone.
 fn compare(wish: Wish) -> ExitCode {
     if let Some(file) = wish.files.iter().find(|file| !file.is_file() || std::fs::File::open(file).is_err()) {
         eprintln!("compare: cannot read {}", file.display());
@@ -87,9 +93,15 @@ fn compare(wish: Wish) -> ExitCode {
         println!("compare: the crate's scanners do not do what is listed: {refuted:?}");
         return ExitCode::FAILURE;
     }
+    let alike = wish.columns || readers(&wish);
+    ExitCode::from(!(columns::compare(wish.amount, wish.seed, wish.files) && alike) as u8)
+}
+
+/// Runs every input, or those of the files, call by call: true if nothing differs but what is listed and everything was seen that should be.
+fn readers(wish: &Wish) -> bool {
     let of_files = !wish.files.is_empty();
-    let families = if of_files { inputs::of_files(wish.files) } else { inputs::all(wish.amount, wish.seed) };
-    let (tallies, found) = run::run(&families);
+    let families = if of_files { inputs::of_files(wish.files.clone()) } else { inputs::all(wish.amount, wish.seed) };
+    let (tallies, found) = run::run(&families, || check::Bench::new(ours::Archive));
     let named: Vec<_> = families.iter().map(|f| f.name).zip(tallies).collect();
     let all = summary::print(&named);
     for (kept, difference) in &found {
@@ -105,5 +117,5 @@ fn compare(wish: Wish) -> ExitCode {
     let missing = if of_files { Vec::new() } else { all.missing(&summary::REFUSALS) };
     missing.iter().for_each(|what| println!("never seen: {what}"));
     println!("compare: {} inputs, {} calls, {} unlisted differences", all.inputs, all.calls, all.differences);
-    ExitCode::from((all.differences > 0 || all.inputs == 0 || !missing.is_empty()) as u8)
+    all.differences == 0 && all.inputs > 0 && missing.is_empty()
 }

@@ -5,6 +5,7 @@ use crate::check::{Bench, Case};
 use crate::inputs::{self, blocks, random, Amount, Flow, Sink, ON};
 use crate::listed;
 use crate::ours::*;
+use crate::run::{Counts, Runs};
 use crate::shrink::Kept;
 use crate::summary::{Tally, REFUSALS, SHARED};
 use crate::theirs::Theirs;

@@ -2,9 +2,7 @@
 
 use crate::check::{Bench, Case, Difference, PANIC};
 use crate::inputs::{Family, Flow, Sink, ON};
-use crate::ours::{Archive, Engine, OPEN_NAMES};
-use crate::shrink::Kept;
-use crate::summary::Tally;
+use crate::ours::{Engine, OPEN_NAMES};
 use std::ops::ControlFlow;
 use std::panic::{catch_unwind, AssertUnwindSafe};
 use std::sync::atomic::{AtomicBool, AtomicU64, AtomicUsize, Ordering::Relaxed};
@@ -23,26 +21,78 @@ const SHORT: usize = 4;
 const OTHERS: u64 = 11;
 const MARKED: u64 = 13;
 
-/// A sink that runs every case, and those with `check_open_names` that it adds.
-pub struct Worker<E> {
-    pub bench: Bench<E>,
-    pub tally: Tally,
-    pub found: Vec<(Kept, Difference)>,
+/// What runs cases of one sort on both sides.
+pub trait Runs {
+    type Case<'a>;
+    /// A case of its own.
+    type Kept: Clone + Send;
+    type Tally: Counts;
+    /// What is told of a case in which nothing differs.
+    type Told;
+
+    fn run(&mut self, case: &Self::Case<'_>, tally: &mut Self::Tally) -> Result<Self::Told, Difference>;
+    /// As new, after a case that did not come back.
+    fn reset(&mut self);
+    fn kept(case: &Self::Case<'_>) -> Self::Kept;
+    /// How many bytes its document has.
+    fn length(kept: &Self::Kept) -> usize;
+}
+
+/// Counts that are added up.
+pub trait Counts: Clone + Default + Send {
+    fn add(&mut self, other: &Self);
+    fn differences(&mut self) -> &mut u64;
+    /// How many inputs were run, and how many calls they took.
+    fn sizes(&self) -> (u64, u64);
+}
+
+/// A case with a difference.
+pub type Found<R> = (<R as Runs>::Kept, Difference);
+
+/// A sink that runs every case, and those that it adds.
+pub struct Worker<R: Runs> {
+    pub bench: R,
+    pub tally: R::Tally,
+    pub found: Vec<Found<R>>,
     /// Stop at the first difference.
-    pub first: bool,
+    first: bool,
     /// How many cases the job has given.
-    given: u64,
+    pub given: u64,
     /// The case at hand, for when it panics.
-    at: Kept,
+    at: Option<R::Kept>,
     keep_at: bool,
 }
 
-impl<E: Engine> Worker<E> {
-    pub fn new(engine: E, first: bool) -> Self {
-        let at = Kept::of(&Case::new(&[], 0, 0));
-        Self { bench: Bench::new(engine), tally: Tally::default(), found: Vec::new(), first, given: 0, at, keep_at: false }
+impl<R: Runs> Worker<R> {
+    pub fn new(bench: R, first: bool) -> Self {
+        Self { bench, tally: R::Tally::default(), found: Vec::new(), first, given: 0, at: None, keep_at: false }
     }
 
+    /// Runs one case: what is told of it, if nothing differs.
+    pub fn one(&mut self, case: &R::Case<'_>) -> ControlFlow<(), Option<R::Told>> {
+        if self.keep_at {
+            self.at = Some(R::kept(case));
+        }
+        let difference = match self.bench.run(case, &mut self.tally) {
+            Ok(told) => return ControlFlow::Continue(Some(told)),
+            Err(difference) => difference,
+        };
+        *self.tally.differences() += 1;
+        let same = |(_, other): &Found<R>| other.fields == difference.fields;
+        if self.found.len() < KEPT && !self.found.iter().any(same) {
+            self.found.push((R::kept(case), difference));
+        }
+        if self.first || *self.tally.differences() >= ENOUGH {
+            return ControlFlow::Break(());
+        }
+        ControlFlow::Continue(None)
+    }
+}
+
+impl<R: Runs> Worker<R>
+where
+    Self: Sink,
+{
     /// Runs a job. If it panics, it is run again to see at which case.
     pub fn job(&mut self, family: &Family, job: usize) -> Flow {
         let run = |worker: &mut Self| {
@@ -57,40 +107,31 @@ impl<E: Engine> Worker<E> {
                 let again = run(self);
                 self.keep_at = false;
                 self.bench.reset();
-                let case = self.at.clone();
-                self.tally.differences += 1;
-                self.found.push((case, PANIC));
+                *self.tally.differences() += 1;
+                self.found.extend(self.at.take().map(|case| (case, PANIC)));
                 again.unwrap_or(Flow::Break(()))
             }
         }
     }
 
-    /// Runs one case: whether names are open at its end.
-    fn one(&mut self, case: &Case) -> ControlFlow<(), bool> {
-        if self.keep_at {
-            self.at = Kept::of(case);
+    /// Runs jobs until a difference is found: after how many inputs, by which family.
+    pub fn notice(mut self, families: &[Family]) -> Option<(u64, &'static str)> {
+        for family in families {
+            for job in 0..family.jobs {
+                if self.job(family, job).is_break() {
+                    return Some((self.tally.sizes().0, family.name));
+                }
+            }
         }
-        let difference = match self.bench.run(case, &mut self.tally) {
-            Ok(open) => return ControlFlow::Continue(open),
-            Err(difference) => difference,
-        };
-        self.tally.differences += 1;
-        let same = |(_, other): &(Kept, Difference)| other.fields == difference.fields;
-        if self.found.len() < KEPT && !self.found.iter().any(same) {
-            self.found.push((Kept::of(case), difference));
-        }
-        if self.first || self.tally.differences >= ENOUGH {
-            return ControlFlow::Break(());
-        }
-        ControlFlow::Continue(false)
+        None
     }
 }
 
-impl<E: Engine> Sink for Worker<E> {
+impl<E: Engine> Sink for Worker<Bench<E>> {
     fn case(&mut self, document: &[u8], settings: u16, slots: usize) -> Flow {
         let case = Case::new(document, settings, slots);
         self.given += 1;
-        let open = self.one(&case)?;
+        let open = self.one(&case)?.unwrap_or(false);
         if !open && document.len() > SHORT && !self.given.is_multiple_of(OTHERS) {
             return ON;
         }
@@ -104,28 +145,32 @@ impl<E: Engine> Sink for Worker<E> {
 }
 
 /// What is shared by the threads.
-struct Shared<'a> {
+struct Shared<'a, R: Runs> {
     families: &'a [Family],
     jobs: Vec<(usize, usize)>,
     next: AtomicUsize,
     inputs: AtomicU64,
     calls: AtomicU64,
     done: AtomicBool,
-    tallies: Mutex<Vec<Tally>>,
-    found: Mutex<Vec<(Kept, Difference)>>,
+    tallies: Mutex<Vec<R::Tally>>,
+    found: Mutex<Vec<Found<R>>>,
 }
 
-impl Shared<'_> {
-    fn work(&self) {
-        let mut worker = Worker::new(Archive, false);
+impl<R: Runs> Shared<'_, R>
+where
+    Worker<R>: Sink,
+{
+    fn work(&self, bench: R) {
+        let mut worker = Worker::new(bench, false);
         loop {
             let Some(&(family, job)) = self.jobs.get(self.next.fetch_add(1, Relaxed)) else { return };
             let _ = worker.job(&self.families[family], job);
-            self.inputs.fetch_add(worker.tally.inputs, Relaxed);
-            self.calls.fetch_add(worker.tally.calls, Relaxed);
+            let (inputs, calls) = worker.tally.sizes();
+            self.inputs.fetch_add(inputs, Relaxed);
+            self.calls.fetch_add(calls, Relaxed);
             self.tallies.lock().unwrap()[family].add(&worker.tally);
-            worker.tally = Tally::default();
-            keep(&mut self.found.lock().unwrap(), &mut worker.found);
+            worker.tally = R::Tally::default();
+            keep::<R>(&mut self.found.lock().unwrap(), &mut worker.found);
         }
     }
 
@@ -148,29 +193,32 @@ impl Shared<'_> {
 }
 
 /// Of each sort of difference the one with the shortest document, and not too many.
-fn keep(all: &mut Vec<(Kept, Difference)>, found: &mut Vec<(Kept, Difference)>) {
+fn keep<R: Runs>(all: &mut Vec<Found<R>>, found: &mut Vec<Found<R>>) {
     all.append(found);
-    all.sort_by_key(|(kept, difference)| (difference.fields, kept.document.len()));
+    all.sort_by_key(|(kept, difference)| (difference.fields, R::length(kept)));
     all.dedup_by_key(|(_, difference)| difference.fields);
     all.truncate(KEPT);
 }
 
-/// Runs every job: the counts of each family, and some differences with the shortest documents.
-pub fn run(families: &[Family]) -> (Vec<Tally>, Vec<(Kept, Difference)>) {
+/// Runs every job by benches made for it: the counts of each family, and some differences with the shortest documents.
+pub fn run<R: Runs>(families: &[Family], bench: impl Fn() -> R + Sync) -> (Vec<R::Tally>, Vec<Found<R>>)
+where
+    Worker<R>: Sink,
+{
     let jobs = families.iter().enumerate().flat_map(|(i, family)| (0..family.jobs).map(move |job| (i, job)));
-    let shared = Shared {
+    let shared = Shared::<R> {
         families,
         jobs: jobs.collect(),
         next: AtomicUsize::new(0),
         inputs: AtomicU64::new(0),
         calls: AtomicU64::new(0),
         done: AtomicBool::new(false),
-        tallies: Mutex::new(vec![Tally::default(); families.len()]),
+        tallies: Mutex::new(vec![R::Tally::default(); families.len()]),
         found: Mutex::new(Vec::new()),
     };
     std::thread::scope(|scope| {
         scope.spawn(|| shared.progress());
-        let workers: Vec<_> = (0..THREADS).map(|_| scope.spawn(|| shared.work())).collect();
+        let workers: Vec<_> = (0..THREADS).map(|_| scope.spawn(|| shared.work(bench()))).collect();
         let ended: Vec<_> = workers.into_iter().map(|worker| worker.join()).collect();
         shared.done.store(true, Relaxed);
         ended.into_iter().for_each(|end| end.expect("a thread of the comparison"));

@@ -2,6 +2,7 @@
 
 use crate::check::{Bench, Case, Difference, FIELDS};
 use crate::ours::*;
+use crate::run::Runs;
 use crate::summary::Tally;
 use crate::trace;
 
@@ -24,15 +25,18 @@ impl Kept {
     }
 }
 
-/// Smaller inputs, the much smaller ones first, each made when it is asked for.
+/// A document with a part cut out, the large parts first, each made when it is asked for.
+pub fn cuts(document: &[u8]) -> impl Iterator<Item = Vec<u8>> + '_ {
+    let length = document.len();
+    let sizes = std::iter::successors(Some(length), |size| Some(size / 2)).take_while(|&size| size > 0);
+    let parts = sizes.flat_map(move |size| (0..length).step_by(size).take(200).map(move |from| (from, size)));
+    parts.map(move |(from, size)| [&document[..from], &document[(from + size).min(length)..]].concat())
+}
+
+/// Smaller inputs, the much smaller ones first.
 fn smaller(kept: &Kept) -> impl Iterator<Item = Kept> + '_ {
     let length = kept.document.len();
-    let sizes = std::iter::successors(Some(length), |size| Some(size / 2)).take_while(|&size| size > 0);
-    let cuts = sizes.flat_map(move |size| (0..length).step_by(size).take(200).map(move |from| (from, size)));
-    let cut = cuts.map(move |(from, size)| {
-        let document = [&kept.document[..from], &kept.document[(from + size).min(length)..]].concat();
-        Kept { document, ..*kept }
-    });
+    let cut = cuts(&kept.document).map(|document| Kept { document, ..*kept });
     let bits = (0..LETTERS.len()).filter(|bit| (kept.settings ^ DEFAULT) >> bit & 1 == 1);
     let plain = bits.map(|bit| Kept { settings: kept.settings ^ 1 << bit, ..kept.clone() });
     let fewer = (kept.slots > 0).then(|| Kept { slots: kept.slots - 1, ..kept.clone() });
@@ -51,17 +55,27 @@ const BYTES: usize = 1 << 33;
 
 /// The smallest input found on which the two sides still differ in one of these fields.
 pub fn shrink<E: Engine>(bench: &mut Bench<E>, kept: &Kept, difference: Difference) -> (Kept, Difference) {
-    let mut tally = Tally::default();
-    let mut best = (kept.clone(), difference);
+    let again = |next: &Kept| bench.run(&next.case(), &mut Tally::default()).err();
+    least((kept.clone(), difference), |kept| Box::new(smaller(kept)), |kept| kept.document.len(), again)
+}
+
+/// Goes from an input to a smaller one that still differs in one of these fields, as long as there is one and it does not take too long.
+pub fn least<K>(
+    mut best: (K, Difference),
+    smaller: impl Fn(&K) -> Box<dyn Iterator<Item = K> + '_>,
+    length: impl Fn(&K) -> usize,
+    mut differs: impl FnMut(&K) -> Option<Difference>,
+) -> (K, Difference) {
+    let fields = best.1.fields;
     let (mut tries, mut bytes) = (3_000, BYTES);
     loop {
-        let mut again = |next: Kept| {
+        let mut again = |next: K| {
             tries -= 1;
-            let found = bench.run(&next.case(), &mut tally).err()?;
-            (found.fields & difference.fields != 0).then_some((next, found))
+            let found = differs(&next)?;
+            (found.fields & fields != 0).then_some((next, found))
         };
-        let within = |next: &Kept| {
-            bytes = bytes.saturating_sub(next.document.len());
+        let within = |next: &K| {
+            bytes = bytes.saturating_sub(length(next));
             bytes > 0
         };
         let next = smaller(&best.0).take(1_000).take_while(within).find_map(&mut again);

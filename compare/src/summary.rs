@@ -2,6 +2,7 @@
 
 use crate::listed;
 use crate::ours::*;
+use crate::run::Counts;
 
 /// The refusals that both sides give, and behind them 18, which is held to the crate's open names.
 pub const REFUSALS: [usize; 14] = [1, 2, 3, 4, 5, 6, 7, 8, 9, 10, 11, 12, 13, UNCLOSED];
@@ -27,9 +28,8 @@ impl Default for Tally {
     }
 }
 
-impl Tally {
-    pub fn add(&mut self, other: &Tally) {
-        let pairs = |a: &mut [u64], b: &[u64]| a.iter_mut().zip(b).for_each(|(a, b)| *a += b);
+impl Counts for Tally {
+    fn add(&mut self, other: &Tally) {
         self.inputs += other.inputs;
         self.calls += other.calls;
         self.differences += other.differences;
@@ -39,6 +39,21 @@ impl Tally {
         pairs(&mut self.left, &other.left);
     }
 
+    fn differences(&mut self) -> &mut u64 {
+        &mut self.differences
+    }
+
+    fn sizes(&self) -> (u64, u64) {
+        (self.inputs, self.calls)
+    }
+}
+
+/// Adds each of the second to that of the first.
+pub fn pairs(all: &mut [u64], more: &[u64]) {
+    all.iter_mut().zip(more).for_each(|(all, more)| *all += more);
+}
+
+impl Tally {
     /// What a comparison that tests something has seen, and this one has not: with these refusals.
     pub fn missing(&self, refusals: &[usize]) -> Vec<String> {
         let mut missing = Vec::new();

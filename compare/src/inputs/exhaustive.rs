@@ -2,7 +2,7 @@
 
 use super::*;
 
-struct Alphabet {
+pub struct Alphabet {
     name: &'static str,
     prefix: &'static [u8],
     parts: Vec<Vec<u8>>,
@@ -13,12 +13,12 @@ struct Alphabet {
 }
 
 /// An alphabet of single bytes.
-fn bytes(name: &'static str, prefix: &'static [u8], letters: &[u8], most: (usize, usize), bits: &[u16]) -> Alphabet {
+pub fn bytes(name: &'static str, prefix: &'static [u8], letters: &[u8], most: (usize, usize), bits: &[u16]) -> Alphabet {
     let parts = letters.iter().map(|&b| vec![b]).collect();
     Alphabet { name, prefix, parts, most, settings: combinations(bits), slots: vec![16] }
 }
 
-fn tokens(name: &'static str, tokens: &[&[u8]], most: (usize, usize), settings: Vec<u16>, slots: Vec<usize>) -> Alphabet {
+pub fn tokens(name: &'static str, tokens: &[&[u8]], most: (usize, usize), settings: Vec<u16>, slots: Vec<usize>) -> Alphabet {
     let parts = tokens.iter().map(|t| t.to_vec()).collect();
     Alphabet { name, prefix: b"", parts, most, settings, slots }
 }
@@ -109,7 +109,7 @@ pub fn families(amount: Amount) -> Vec<Family> {
 }
 
 /// A job for each pair of first parts, and one for the sequences of less than two.
-fn family(alphabet: Alphabet, amount: Amount) -> Family {
+pub fn family(alphabet: Alphabet, amount: Amount) -> Family {
     let most = amount.of(alphabet.most.0, alphabet.most.1);
     let count = alphabet.parts.len();
     Family::new(alphabet.name, 1 + count * count, move |job, sink| {

@@ -52,7 +52,7 @@ pub fn families(paths: Vec<PathBuf>) -> Vec<Family> {
 }
 
 /// The document with its first DOCTYPE taken out, up to the `>` outside quotes and brackets.
-fn without_doctype(document: &[u8]) -> Option<Vec<u8>> {
+pub fn without_doctype(document: &[u8]) -> Option<Vec<u8>> {
     let opens = |w: &[u8]| w.eq_ignore_ascii_case(b"<!doctype");
     let from = document.windows(9).position(opens)?;
     let (mut quote, mut depth) = (0, 0);

@@ -1,6 +1,7 @@
 //! The families of inputs. Each is cut into jobs that can be run in any order; a job gives its cases to a sink, always the same ones.
 
 pub mod blocks;
+mod columns;
 mod exhaustive;
 mod files;
 mod limits;
@@ -66,6 +67,19 @@ pub fn all(amount: Amount, seed: u64) -> Vec<Family> {
     families.extend(random::families(amount, seed));
     families.extend(files::families(files::found(amount)));
     families.extend(limits::largest(amount));
+    families
+}
+
+/// Those of the column reader: its own, and some of the others, of which it takes those with the default settings.
+pub fn columns(amount: Amount, seed: u64) -> Vec<Family> {
+    let found = files::found(Amount::Full);
+    let step = amount.of(found.len() / 200 + 1, 1);
+    let found: Vec<PathBuf> = found.into_iter().step_by(step).collect();
+    let mut families = columns::families(amount, seed);
+    families.push(columns::of_files(found.clone(), seed));
+    families.extend(files::families(found));
+    families.extend(limits::families(amount));
+    families.extend(random::families(amount, seed).into_iter().take(1));
     families
 }
 

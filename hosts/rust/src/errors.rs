@@ -139,8 +139,9 @@ pub(crate) struct Told<'a> {
     pub latest: &'a [u8],
 }
 
-fn owned(name: &[u8]) -> String {
-    String::from_utf8_lossy(name).into_owned()
+/// Bytes of the document as a string, to be kept.
+pub(crate) fn owned(bytes: &[u8]) -> String {
+    String::from_utf8_lossy(bytes).into_owned()
 }
 
 impl Error {

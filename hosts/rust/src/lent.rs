@@ -2,7 +2,7 @@
 //!
 //! Each but [`default_settings`] answers 0 or the number of a refusal, whatever the numbers are that it is lent. `include/sporebasket.h` says
 //! what the slots hold.
-//! [`Reader`](crate::Reader) keeps the memory and gives the numbers their names.
+//! [`Reader`](crate::Reader) and [`read_column`](crate::read_column) keep the memory and give the numbers their names.
 //!
 //! ```
 //! use sporebasket::lent;
@@ -25,7 +25,7 @@
 
 use crate::raw;
 
-pub use crate::raw::{ANSWER_SLOTS, NAME_SLOTS, PART_SLOTS, STATE_SLOTS};
+pub use crate::raw::{ANSWER_SLOTS, COLUMN_SLOTS, NAME_SLOTS, PART_SLOTS, STATE_SLOTS};
 
 /// The settings of a reader to which none are given, a bit each.
 ///
@@ -130,6 +130,49 @@ pub fn content(document: &[u8], from: usize, to: usize, part: &mut [usize]) -> u
             to,
             part.as_mut_ptr(),
             part.len(),
+        )
+    }
+}
+
+/// Reads the whole document from its start with the default settings, and fills the column with the times within `t`, each as its minutes; writes the answer, and the
+/// stack as the calls of a reader do. [`mod@crate::column`] says what a time is.
+///
+/// The answer's first [`COLUMN_SLOTS`] slots are how many times stand in the column; the first index whose time is lower than the one before it, or 0; and the number,
+/// the place, the piece, the expected name and the one found of the refusal that ended the reading, or 0. Slots of the column past the count are left alone, and
+/// the times before a refusal stay.
+///
+/// 30: text or a reference within `t` that is no time; 31: the column is full, and one more time stands there; 15: the stack is full. After 15 or 31 lend a longer one
+/// and call again: the document is read from its start. No column needs more slots than a fifth of the document's bytes. 16: the document is too long, and
+/// nothing but the answer is written; 17: the answer has too few slots, and nothing is written.
+///
+/// ```
+/// use sporebasket::lent;
+///
+/// let document = b"<t>23:50</t> <t> 00:10 </t> <t>24:15</t>";
+/// let mut answer = [0; lent::COLUMN_SLOTS];
+/// let mut stack = [0; lent::NAME_SLOTS];
+/// let mut column = [0; 4];
+/// assert_eq!(lent::column(document, &mut stack, &mut column, &mut answer), 0);
+/// // three times, of which that at index 1 is lower than the one before it
+/// assert_eq!((column, &answer[..2]), ([1430, 10, 1455, 0], &[3, 1][..]));
+///
+/// // a column for two: 31 at 31, the piece of the third
+/// assert_eq!(lent::column(document, &mut stack, &mut column[..2], &mut answer), 31);
+/// assert_eq!(answer, [2, 1, 31, 31, 31, 36, 0, 0, 0, 0]);
+/// ```
+pub fn column(document: &[u8], stack: &mut [usize], column: &mut [usize], answer: &mut [usize]) -> usize {
+    // SAFETY: pointers and counts are those of slices, so no pointer is null; the three that are written to are lent exclusively, so they
+    // overlap neither with each other nor with the document.
+    unsafe {
+        raw::sporebasket_column(
+            document.as_ptr(),
+            document.len(),
+            stack.as_mut_ptr(),
+            stack.len(),
+            column.as_mut_ptr(),
+            column.len(),
+            answer.as_mut_ptr(),
+            answer.len(),
         )
     }
 }

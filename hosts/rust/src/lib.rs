@@ -27,6 +27,15 @@
 //! [`check_open_names`](Config::check_open_names) a document that ends while names are open is refused: where [`Eof`](Event::Eof) comes and no error
 //! before it, every element was closed.
 //!
+//! [`column()`] reads the times of a timetable's column, which may run past midnight:
+//!
+//! ```
+//! let times = sporebasket::column(b"<r><t>23:50</t><t>24:10</t></r>")?;
+//! assert_eq!(times.len(), 2);
+//! assert!(times[0] < times[1]);
+//! # Ok::<(), sporebasket::ColumnError>(())
+//! ```
+//!
 //! Nothing is shared between readers, so each may be used on a thread of its own. A reader allocates
 //! room for open names, when it has none left for one more; a refusal owns the names that it tells. Hosts that lend all memory themselves use [`lent`].
 #![warn(missing_docs)]
@@ -35,6 +44,7 @@
 #[cfg(not(target_pointer_width = "64"))]
 compile_error!("the archive of sporebasket is for processors with addresses of 64 bits");
 
+pub mod column;
 mod config;
 pub mod encoding;
 pub mod errors;
@@ -42,7 +52,10 @@ pub mod events;
 pub mod lent;
 mod raw;
 pub mod reader;
+mod time;
 
+#[doc(inline)]
+pub use column::{column, read_column, Column, ColumnError, Time};
 #[doc(inline)]
 pub use encoding::EncodingError;
 #[doc(inline)]

@@ -38,6 +38,18 @@ extern "C" {
         part: *mut usize,
         part_slots: usize,
     ) -> usize;
+
+    /// Fills the column with the times of the whole document, and writes the stack and the answer: 0, or the refusal's number.
+    pub fn sporebasket_column(
+        document: *const u8,
+        length: usize,
+        stack: *mut usize,
+        stack_slots: usize,
+        column: *mut usize,
+        column_slots: usize,
+        answer: *mut usize,
+        answer_slots: usize,
+    ) -> usize;
 }
 
 /// The most bytes that a document may have.
@@ -58,6 +70,9 @@ pub const ANSWER_SLOTS: usize = 12;
 /// The slots of a part of the document: its start and its end.
 pub const PART_SLOTS: usize = 2;
 
+/// The slots of a column's answer: count, lower, number, place, piece, expected and found, a span in two slots.
+pub const COLUMN_SLOTS: usize = 10;
+
 /// The slots of a state, by their places.
 pub mod state {
     pub const PHASE: usize = 0;
@@ -76,4 +91,15 @@ pub mod answer {
     pub const NAME: usize = 7;
     pub const EXPECTED: usize = 8;
     pub const FOUND: usize = 10;
+}
+
+/// The slots of a column's answer, by their places; of a span, that of its start.
+pub mod column {
+    pub const COUNT: usize = 0;
+    pub const LOWER: usize = 1;
+    pub const NUMBER: usize = 2;
+    pub const PLACE: usize = 3;
+    pub const PIECE: usize = 4;
+    pub const EXPECTED: usize = 6;
+    pub const FOUND: usize = 8;
 }

@@ -44,6 +44,15 @@ impl Header {
         }
         (state, answer)
     }
+
+    /// The answer to a column with room for two times and one name.
+    fn column(&self, document: &[u8]) -> Vec<usize> {
+        let mut stack = vec![0; self.get("NAME_SLOTS")];
+        let mut answer = vec![0; self.get("COLUMN_SLOTS")];
+        let number = lent::column(document, &mut stack, &mut [0; 2], &mut answer);
+        assert_eq!(number, answer[self.get("COLUMN_NUMBER")]);
+        answer
+    }
 }
 
 #[test]
@@ -55,6 +64,7 @@ fn limits_and_slots() {
     assert_eq!(header.get("STATE_SLOTS"), lent::STATE_SLOTS);
     assert_eq!(header.get("ANSWER_SLOTS"), lent::ANSWER_SLOTS);
     assert_eq!(header.get("PART_SLOTS"), lent::PART_SLOTS);
+    assert_eq!(header.get("COLUMN_SLOTS"), lent::COLUMN_SLOTS);
     let defaults = header.get("CHECK_END_NAMES") + header.get("TRIM_MARKUP_NAMES_IN_CLOSING_TAGS");
     assert_eq!(lent::default_settings(), defaults);
 }
@@ -176,5 +186,74 @@ fn slots_of_a_state_and_of_an_answer() {
     ];
     for (slot, value) in slots {
         assert_eq!(answer[header.get(&format!("ANSWER_{slot}"))], value, "{slot}");
+    }
+}
+
+#[test]
+fn refusals_of_a_column() {
+    let header = Header::read();
+    let rows: [(&str, &[u8]); 5] = [
+        ("BAD_TIME", b"<t>a"),
+        ("BAD_TIME", b"<t>&a;"),
+        ("COLUMN_FULL", b"<t>00:00</t><t>00:00</t><t>00:00</t>"),
+        ("UNCLOSED_REFERENCE", b"&"),
+        ("NAME_STACK_FULL", b"<t><t>"),
+    ];
+    for (refusal, document) in rows {
+        let answer = header.column(document);
+        assert_eq!(answer[header.get("COLUMN_NUMBER")], header.get(refusal), "{refusal}");
+    }
+    let too_long = vec![0; header.get("LONGEST") + 1];
+    assert_eq!(
+        header.column(&too_long)[header.get("COLUMN_NUMBER")],
+        header.get("SLICE_TOO_LONG")
+    );
+    assert_eq!(lent::column(b"", &mut [], &mut [], &mut []), header.get("BAD_STATE"));
+}
+
+#[test]
+fn slots_of_a_column() {
+    let header = Header::read();
+    type Slots = &'static [(&'static str, usize)];
+    let rows: [(&[u8], Slots); 3] = [
+        (
+            b"<t>00:10</t><t>00:09</t><a></bcd>",
+            &[
+                ("COUNT", 2),
+                ("LOWER", 1),
+                ("PLACE", 27),
+                ("EXPECTED_FROM", 25),
+                ("EXPECTED_TO", 26),
+                ("FOUND_FROM", 29),
+                ("FOUND_TO", 32),
+            ],
+        ),
+        (
+            b"<t>00:10</t>ab\xFF",
+            &[
+                ("COUNT", 1),
+                ("LOWER", 0),
+                ("PLACE", 14),
+                ("PIECE_FROM", 12),
+                ("PIECE_TO", 15),
+            ],
+        ),
+        (
+            b"<t>00:10</t>",
+            &[
+                ("COUNT", 1),
+                ("LOWER", 0),
+                ("NUMBER", 0),
+                ("PLACE", 0),
+                ("PIECE_FROM", 0),
+                ("PIECE_TO", 0),
+            ],
+        ),
+    ];
+    for (document, slots) in rows {
+        let answer = header.column(document);
+        for (slot, value) in slots {
+            assert_eq!(answer[header.get(&format!("COLUMN_{slot}"))], *value, "{slot}");
+        }
     }
 }

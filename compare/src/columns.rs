@@ -1,0 +1,64 @@
+//! Compares the column reader with a second account over quick-xml's own events.
+
+mod account;
+mod bench;
+mod faults;
+mod shrink;
+mod summary;
+
+use crate::check::PANIC;
+use crate::inputs::{self, Amount, Family};
+use crate::ours::{
+    DEFAULT, DOCTYPE, ENCODING, END, EOF, LONGEST, MISMATCHED, MOST_NAMES, REF, STACK_FULL, START, TEXT, TOO_LONG, UNMATCHED_END,
+};
+use crate::run;
+use bench::Bench;
+use std::collections::HashSet;
+use std::path::PathBuf;
+
+/// The slots of an answer.
+const COUNT: usize = 0;
+const LOWER: usize = 1;
+const NUMBER: usize = 2;
+const PIECE_FROM: usize = 4;
+const SLOTS: usize = 10;
+
+/// The refusals of the column reader alone, and that of an answer with too few slots.
+const BAD_STATE: usize = 17;
+const BAD_TIME: usize = 30;
+const COLUMN_FULL: usize = 31;
+
+/// Runs every input, or those of the files: true if nothing differs and everything was seen that should be.
+pub fn compare(amount: Amount, seed: u64, files: Vec<PathBuf>) -> bool {
+    let of_files = !files.is_empty();
+    let families = if of_files { inputs::of_files(files) } else { inputs::columns(amount, seed) };
+    let (tallies, found) = run::run(&families, || Bench::new(&account::SOUND));
+    let named: Vec<_> = families.iter().map(|family| family.name).zip(tallies).collect();
+    let all = summary::print(&named);
+    let mut shown = HashSet::new();
+    for (kept, difference) in &found {
+        if *difference == PANIC {
+            println!("a side panicked: {}", shrink::line(kept));
+            continue;
+        }
+        let mut bench = Bench::new(&account::SOUND);
+        let (kept, difference) = shrink::shrink(&mut bench, kept, *difference);
+        if shown.insert(shrink::line(&kept)) {
+            shrink::show(&mut bench, &kept, difference);
+        }
+    }
+    let missing = if of_files { Vec::new() } else { all.missing() };
+    missing.iter().for_each(|what| println!("never seen: {what}"));
+    println!("{}", all.line());
+    all.differences == 0 && all.inputs > 0 && missing.is_empty()
+}
+
+/// Tries every wrong account by the quick inputs: true if all are noticed.
+pub fn faults(seed: u64) -> bool {
+    let accounts: Vec<_> = faults::ALL.iter().copied().flatten().collect();
+    let families: Vec<Family> = inputs::columns(Amount::Quick, seed);
+    let notice = |account: &&'static account::Account| run::Worker::new(Bench::new(account), true).notice(&families);
+    let noticed = crate::faults::all_of(&accounts, |account| account.name, notice);
+    println!("columns: {noticed} of {} wrong accounts noticed", accounts.len());
+    noticed == accounts.len()
+}
