@@ -3,10 +3,10 @@
 //   run SETTINGS SLOTS BYTES                                              every call up to end of file, one more, and the counts
 //   state SETTINGS PHASE POSITION DEPTH LENGTH SLOTS VALUES BYTES         one call, from the state given
 //   content FROM TO BYTES                                                 the bytes of a span
-//   column ROOM SLOTS BYTES                                               the times of a document, with ROOM slots for them that hold 9999 before
+//   column ROOM SLOTS BYTES                                               the times of a document, in ROOM slots that hold 9999 before
 // The answers to the last four stand below the line. NAME is one that `leaves.rt` has. A function that compares has its other bytes in place of the
 // second number. SETTINGS are letters of `settings.rt` or `-`. PHASE has a `!` in front where the mark is on, in the answers too. SLOTS is how many slots
-// the lent stack has, at most as many as `calls.rt` has, and VALUES, with commas or `-`, what its first ones hold. In BYTES `\` and two hexadecimal digits
+// the lent stack has, at most as many as `calls.rt` has (for `column` 16, as of ROOM), and VALUES, with commas or `-`, what its first ones hold. In BYTES `\` and two hexadecimal digits
 // stand for a byte. Any other line is written as it is. The cases together have fewer than 65,536 bytes.
 mod calls;
 mod leaves;

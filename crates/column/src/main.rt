@@ -21,14 +21,14 @@ fn main() {
     list(&buffer[..n]);
 }
 
-// The times, the refusal and the order. A time has five bytes, so that the column has room for all.
+// The times, the refusal and the order. The column has a slot for every five bytes: a time has as many.
 fn list(document: &[u8]) {
     let mut stack = [0usize; 128];
     let mut times = [0usize; 13107];
     let summary = read_column(document, &mut stack, &mut times);
     let outcome = summary.outcome;
     let order = summary.order;
-    say_times(&times, summary.count);
+    say_times(&times[..summary.count]);
     if outcome.is_refused() {
         let values = outcome.values();
         say_refused(values.number, values.place);
@@ -36,13 +36,9 @@ fn list(document: &[u8]) {
     say_order(summary.count, order);
 }
 
-// The first `count` times.
-fn say_times(times: &[usize], count: usize) {
+fn say_times(times: &[usize]) {
     let mut i = 0;
     while i < times.len() {
-        if count <= i {
-            break;
-        }
         say_time(times[i]);
         i += 1;
     }

@@ -91,7 +91,7 @@ module _ (doc : List ℕ) (names : List Span) (a : Answer) where
   pub tells-event : (e : Event) (r : Told) → a ≡ Answer.Event e → r ≡ eventTells doc names e → r ≡ tells doc names a
   tells-event e r is f = rw is f
 
-  pub tells-refused : (x : Refusal) → a ≡ Answer.Refused x → Told.Refused (Outcome.Refused x) ≡ tells doc names a
+  pub tells-refused : (x : Refusal) → a ≡ Answer.Refused x → Told.Refused (Outcome.ReaderRefused x) ≡ tells doc names a
   tells-refused x is = rw is refl
 
 pub ruleset events = (needs, tells-event, tells-refused, event-text, event-text-elsewhere, event-ref, event-ref-elsewhere, event-other)

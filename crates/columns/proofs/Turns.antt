@@ -12,7 +12,7 @@ use lib.Dec.{ltb}
 use borrow.Author.Needs.{needs}
 use borrow.Author.Tests.{eqb-true, ne-eqb, ltb-true, ltb-false}
 use Rattle.ground.specs.Choose.{pick}
-use Rattle.ground.proofs.Choices.{clash}
+use Rattle.ground.proofs.Choices.{clash, pick-same}
 use Rattle.ground.proofs.Lists.{drop-next}
 use Rattle.state.specs.declared.place.Span.{Span}
 use Rattle.state.specs.declared.config.Config.{Config}
@@ -30,7 +30,7 @@ use Rattle.state.specs.Values.{kindNumber}
 use Rattle.state.proofs.Room.{capacity-slots}
 use Rattle.reader.specs.Step.{step, Stepped}
 use Rattle.demands.specs.Run.{World, said, call, run}
-use Rattle.demands.specs.Answers.{isEof}
+use Rattle.demands.specs.Answers.{isEof, oneIs}
 use Rattle.demands.specs.Open.{entries}
 use Rattle.demands.proofs.Demand1.{a-reader-made-is-a-run's, depth-within-capacity, stack-keeps-its-length, eof-stays}
 use Rattle.demands.proofs.Demand3.{open-names-are-those-told}
@@ -41,7 +41,7 @@ use Rattle.columns.specs.declared.outcome.Outcome.{Outcome}
 use Rattle.columns.specs.Order.{orderOf}
 use Rattle.columns.specs.Outcome.{isRefused}
 use Rattle.columns.specs.Told.{eventTells, tells}
-use Rattle.columns.specs.Column.{Reading, reading, onward, readOf, callsOf, answersOf, readIn, stackLeft, filledWith, Columned, toldIn}
+use Rattle.columns.specs.Column.{Reading, reading, onward, readOf, isOver, callsOf, answersOf, readIn, stackLeft, filledWith, Columned, toldIn}
 use Rattle.columns.specs.Inside.{filledBy, slotsBy, ReadTo}
 
 -- ---- a column and its times
@@ -107,7 +107,7 @@ eof-tells-nothing doc names (Answer.Refused x) h = clash false h refl
 -- what is not refused is read whole
 pub whole-outcome : (o : Outcome) → isRefused o ≡ false → o ≡ Outcome.Whole
 whole-outcome Outcome.Whole e = refl
-whole-outcome (Outcome.Refused x) e = clash true refl e
+whole-outcome (Outcome.ReaderRefused x) e = clash true refl e
 whole-outcome (Outcome.BadTime x) e = clash true refl e
 whole-outcome (Outcome.ColumnFull x) e = clash true refl e
 
@@ -124,12 +124,19 @@ module _ (doc stack₀ column₀ : List ℕ) where
   abbrev pub asked : ℕ → ℕ
   asked n = callsOf doc (length column₀) (after n .answers)
 
+  -- whether one of them is Eof, and whether the reading is over
+  abbrev pub ended : ℕ → Bool
+  ended n = oneIs isEof (after n .answers)
+
+  abbrev pub over : ℕ → Bool
+  over n = isOver doc (length column₀) (after n .answers)
+
   module _ (n : ℕ) where
     pub heard-next : isRefused (heard n .outcome) ≡ false → heard (suc n) ≡ onward (length column₀) (heard n) (toldIn doc (after n))
     unfolding run call readOf
     heard-next e = rw e refl
 
-    pub asked-next : isRefused (heard n .outcome) ≡ false → asked (suc n) ≡ suc (asked n)
+    pub asked-next : over n ≡ false → asked (suc n) ≡ suc (asked n)
     unfolding run call callsOf
     asked-next e = rw e refl
 
@@ -137,43 +144,72 @@ module _ (doc stack₀ column₀ : List ℕ) where
     unfolding run call readOf
     heard-over e = rw e refl
 
-    pub asked-over : isRefused (heard n .outcome) ≡ true → asked (suc n) ≡ asked n
+    pub asked-over : over n ≡ true → asked (suc n) ≡ asked n
     unfolding run call callsOf
     asked-over e = rw e refl
 
+    pub ended-next : isEof (said doc (after n)) ≡ true → ended (suc n) ≡ true
+    unfolding run call oneIs
+    ended-next e = rw e refl
+
+    pub ended-stays : ended n ≡ true → ended (suc n) ≡ true
+    unfolding run call oneIs
+    ended-stays e = rw e (pick-same (isEof (said doc (after n))) true)
+
+    pub unended-next : ended n ≡ false → isEof (said doc (after n)) ≡ false → ended (suc n) ≡ false
+    unfolding run call oneIs
+    unended-next e f = rw (f, e) refl
+
+    -- a reading is over after a refusal, and after Eof
+    pub over-refused : isRefused (heard n .outcome) ≡ true → over n ≡ true
+    over-refused e = rw e refl
+
+    pub over-ended : ended n ≡ true → over n ≡ true
+    over-ended e = rw e (pick-same (isRefused (heard n .outcome)) true)
+
+    pub not-over : isRefused (heard n .outcome) ≡ false → ended n ≡ false → over n ≡ false
+    not-over e f = rw (e, f) refl
+
+  pub over-on : (n : ℕ) → over n ≡ true → over (suc n) ≡ true
+  over-on n e = by (isRefused (heard n .outcome)) refl
+    where
+      by : (t : Bool) → isRefused (heard n .outcome) ≡ t → over (suc n) ≡ true
+      by true f = over-refused (suc n) (ap (λ (r : Reading). isRefused (r .outcome)) (heard-over n f) ∙ f)
+      by false f = over-ended (suc n) (ended-stays n (rw f at e))
+
   -- a refusal ends the reading
-  pub over-stays : (n : ℕ) → isRefused (heard n .outcome) ≡ true → (k : ℕ) → (heard (k + n) ≡ heard n) × (asked (k + n) ≡ asked n)
-  over-stays n e zero = rw (zero-add n) (refl, refl)
-  over-stays n e (suc k) =
-      let h = over-stays n e k in
-      let f : isRefused (heard (k + n) .outcome) ≡ true = ap (λ (r : Reading). isRefused (r .outcome)) (h .0) ∙ e in
-      rw (suc-add k n) (heard-over (k + n) f ∙ h .0, asked-over (k + n) f ∙ h .1)
+  pub refused-stays : (n : ℕ) → isRefused (heard n .outcome) ≡ true → (k : ℕ) → heard (k + n) ≡ heard n
+  refused-stays n e zero = rw (zero-add n) refl
+  refused-stays n e (suc k) =
+      let h = refused-stays n e k in
+      rw (suc-add k n) (heard-over (k + n) (ap (λ (r : Reading). isRefused (r .outcome)) h ∙ e) ∙ h)
+
+  -- where it is over no call is made
+  pub over-stays : (n : ℕ) → over n ≡ true → (k : ℕ) → (over (k + n) ≡ true) × (asked (k + n) ≡ asked n)
+  over-stays n e zero = rw (zero-add n) (e, refl)
+  over-stays n e (suc k) = let h = over-stays n e k in rw (suc-add k n) (over-on (k + n) (h .0), asked-over (k + n) (h .0) ∙ h .1)
 
   module _ (short : length doc ≤ longest) where
     -- an Eof is the last that is heard
     module _ (n : ℕ) (goes : isRefused (heard n .outcome) ≡ false) (eof : isEof (said doc (after n)) ≡ true) where
-      pub eof-heard : (k : ℕ) → (heard (k + suc n) ≡ heard n) × (asked (k + suc n) ≡ k + suc (asked n))
-      eof-heard zero =
-          rw (zero-add (suc n))
-          (heard-next n goes ∙ ap (onward (length column₀) (heard n)) (eof-tells-nothing doc _ (said doc (after n)) eof), asked-next n goes ∙ sym (zero-add (suc (asked n))))
+      pub eof-heard : (k : ℕ) → heard (k + suc n) ≡ heard n
+      eof-heard zero = rw (zero-add (suc n)) (heard-next n goes ∙ ap (onward (length column₀) (heard n)) (eof-tells-nothing doc _ (said doc (after n)) eof))
       eof-heard (suc k) =
           let h = eof-heard k in
           let m = k + suc n in
-          let f : isRefused (heard m .outcome) ≡ false = ap (λ (r : Reading). isRefused (r .outcome)) (h .0) ∙ goes in
+          let f : isRefused (heard m .outcome) ≡ false = ap (λ (r : Reading). isRefused (r .outcome)) h ∙ goes in
           let e : isEof (said doc (after m)) ≡ true = eof-stays doc stack₀ defaults short n eof k .says in
-          rw (suc-add k (suc n)) (
-            heard-next m f ∙ ap (onward (length column₀) (heard m)) (eof-tells-nothing doc _ (said doc (after m)) e) ∙ h .0,
-            asked-next m f ∙ ap suc (h .1) ∙ sym (suc-add k (suc (asked n))),
-          )
+          rw (suc-add k (suc n)) (heard-next m f ∙ ap (onward (length column₀) (heard m)) (eof-tells-nothing doc _ (said doc (after m)) e) ∙ h)
 
 -- ---- a loop over calls
 
--- what it has after i calls, of which none is refused
+-- what it has after i calls, of which none is refused and none answers Eof
 pub record Going (doc stack₀ column₀ : List ℕ) (i : ℕ) (stack column : List ℕ) (r : Reader) (count : ℕ) : Type 0 where
   pub short : length doc ≤ longest
   pub reader : r ≡ run doc stack₀ defaults i .reader
   pub names : stack ≡ run doc stack₀ defaults i .stack
   pub asks : asked doc stack₀ column₀ i ≡ i
+  pub unended : ended doc stack₀ column₀ i ≡ false
   pub same : Same (length column₀) (heard doc stack₀ column₀ i) column₀ (record { count = count; outcome = Outcome.Whole }) column
 
 -- what a loop has when it ends, after `calls` calls that count
@@ -190,7 +226,7 @@ read-to doc stack₀ column₀ f stack column r calls e n t s =
 
 -- before the first call
 pub going-first : (doc stack column : List ℕ) (r : Reader) → made (length doc) defaults ≡ Made.Fresh r → Going doc stack column 0 stack column r 0
-unfolding run readOf callsOf
+unfolding run readOf callsOf oneIs
 going-first doc stack column r e =
     let m = a-reader-made-is-a-run's doc stack defaults r e in
     record {
@@ -198,12 +234,19 @@ going-first doc stack column r e =
       reader = m .1;
       names = refl;
       asks = refl;
+      unended = refl;
       same = record { times = refl; outcome = refl; slots = refl; fits = omega arith };
     }
 
 module _ (doc stack₀ column₀ stack column : List ℕ) (r : Reader) (i count : ℕ) (g : Going doc stack₀ column₀ i stack column r count) where
   goes : isRefused (heard doc stack₀ column₀ i .outcome) ≡ false
   goes = ap isRefused (sym (g .same .outcome))
+
+  reads-on : over doc stack₀ column₀ i ≡ false
+  reads-on = not-over doc stack₀ column₀ i goes (g .unended)
+
+  asked-onward : asked doc stack₀ column₀ (suc i) ≡ suc i
+  asked-onward = asked-next doc stack₀ column₀ i reads-on ∙ ap suc (g .asks)
 
   column-length : length column ≡ length column₀
   column-length = ap length (g .same .slots) ∙ filled-length (heard doc stack₀ column₀ i .times) column₀ (g .same .fits)
@@ -246,14 +289,12 @@ module _ (doc stack₀ column₀ stack column : List ℕ) (r : Reader) (i count 
     read-eof calls x e l f t =
         let eof : isEof (said doc (run doc stack₀ defaults i)) ≡ true = ap isEof (sym next-said) ∙ sym f ∙ t in
         let k = length doc + 2 - suc i in
-        let n : length doc + 2 ≡ k + suc i = omega arith in
-        let h = eof-heard doc stack₀ column₀ (g .short) i goes eof k in
-        let rest = eof-stays doc stack₀ defaults (g .short) i eof k in
-        let a : asked doc stack₀ column₀ (k + suc i) ≡ k + suc i = h .1 ∙ ap (λ (j : ℕ). k + suc j) (g .asks) in
-        read-to doc stack₀ column₀ _ after' column (heard doc stack₀ column₀ i) (k + suc i)
-        (sym (h .0) ∙ ap (heard doc stack₀ column₀) (sym n))
-        (sym a ∙ ap (asked doc stack₀ column₀) (sym n))
-        (next-stack ∙ sym (rest .stack))
+        let n : k + suc i ≡ length doc + 2 = omega arith in
+        let over-now = over-ended doc stack₀ column₀ (suc i) (ended-next doc stack₀ column₀ i eof) in
+        read-to doc stack₀ column₀ _ after' column (heard doc stack₀ column₀ i) (suc i)
+        (sym (eof-heard doc stack₀ column₀ (g .short) i goes eof k) ∙ ap (heard doc stack₀ column₀) n)
+        (sym asked-onward ∙ sym (over-stays doc stack₀ column₀ (suc i) over-now k .1) ∙ ap (asked doc stack₀ column₀) n)
+        next-stack
         (g .same)
 
     module _ (t : Told) (f : Filled) (column' : List ℕ) (et : t ≡ tells doc (entries after' (s .reader .depth .0)) (s .answer))
@@ -272,19 +313,17 @@ module _ (doc stack₀ column₀ stack column : List ℕ) (r : Reader) (i count 
           let o = same-onward (heard doc stack₀ column₀ i) column₀ (sym (g .same .outcome)) (g .same .fits) t in
           rw (heard-onward, ef, ec, column-length, g .same .slots, g .same .times) o
 
-      asked-onward : asked doc stack₀ column₀ (suc i) ≡ suc i
-      asked-onward = asked-next doc stack₀ column₀ i goes ∙ ap suc (g .asks)
-
       module _ (x : Bool) (ex : x ≡ isRefused (f .outcome)) where
         -- one more call
-        pub going-on : x ≡ false → Going doc stack₀ column₀ (i + 1) after' column' (s .reader) (f .count)
-        going-on not-refused =
+        pub going-on : (y : Bool) → y ≡ isEof (s .answer) → y ≡ false → x ≡ false → Going doc stack₀ column₀ (i + 1) after' column' (s .reader) (f .count)
+        going-on y ey not-eof not-refused =
             rw (add-one i)
             record {
               short = g .short;
               reader = next-reader;
               names = next-stack;
               asks = asked-onward;
+              unended = unended-next doc stack₀ column₀ i (g .unended) (ap isEof (sym next-said) ∙ sym ey ∙ not-eof);
               same = rw (whole-outcome (f .outcome) (sym ex ∙ not-refused)) at same-next;
             }
 
@@ -293,11 +332,11 @@ module _ (doc stack₀ column₀ stack column : List ℕ) (r : Reader) (i count 
         read-refused calls e l yes-refused =
             let k = length doc + 2 - suc i in
             let n : k + suc i ≡ length doc + 2 = omega arith in
-            let over : isRefused (heard doc stack₀ column₀ (suc i) .outcome) ≡ true = ap isRefused (sym (same-next .outcome)) ∙ sym ex ∙ yes-refused in
-            let h = over-stays doc stack₀ column₀ (suc i) over k in
+            let refused : isRefused (heard doc stack₀ column₀ (suc i) .outcome) ≡ true = ap isRefused (sym (same-next .outcome)) ∙ sym ex ∙ yes-refused in
+            let over-now = over-refused doc stack₀ column₀ (suc i) refused in
             read-to doc stack₀ column₀ f after' column' (heard doc stack₀ column₀ (suc i)) (suc i)
-            (sym (h .0) ∙ ap (heard doc stack₀ column₀) n)
-            (sym asked-onward ∙ sym (h .1) ∙ ap (asked doc stack₀ column₀) n)
+            (sym (refused-stays doc stack₀ column₀ (suc i) refused k) ∙ ap (heard doc stack₀ column₀) n)
+            (sym asked-onward ∙ sym (over-stays doc stack₀ column₀ (suc i) over-now k .1) ∙ ap (asked doc stack₀ column₀) n)
             next-stack
             same-next
 
@@ -310,7 +349,7 @@ module _ (doc stack column : List ℕ) (m : Made) (c : Config) (given : c ≡ de
   made-fresh r is = ap (made (length doc)) (sym given) ∙ sym e ∙ is
 
   pub columned-not : (x : Refusal) → m ≡ Made.Refused x
-      → Columned doc stack column (record { count = 0; outcome = Outcome.Refused x; order = Order.Kept }) stack column
+      → Columned doc stack column (record { count = 0; outcome = Outcome.ReaderRefused x; order = Order.Kept }) stack column
   unfolding readIn stackLeft
   columned-not x is =
       let f : made (length doc) defaults ≡ Made.Refused x = ap (made (length doc)) (sym given) ∙ sym e ∙ is in

@@ -5,10 +5,10 @@ use mathlib.Core.List.{List, [], _∷_, _++_, append-nil}
 use mathlib.Core.Bool.{Bool, true, false}
 use native.Mathlib.Omega.{arith}
 use native.Mathlib.Decide.{decLt}
-use lib.ListN.{length, getD, drop, length-append, List·getD-append}
-use lib.Seq.{getD-append-add, getD-drop}
+use lib.ListN.{length, getD, take, drop, length-append, length-take, List·getD-append}
+use lib.Seq.{getD-append-add, getD-drop, take-append-seam}
 use lib.Dec.{eqb, ltb}
-use borrow.Author.Tests.{eqb-true, ltb-true, ltb-false, lt-ltb, le-ltb}
+use borrow.Author.Tests.{eqb-true, ne-eqb, ltb-true, ltb-false, lt-ltb, le-ltb}
 use Rattle.ground.specs.Choose.{pick}
 use Rattle.ground.specs.Least.{Gives}
 use Rattle.ground.proofs.Choices.{clash, pick-cases}
@@ -24,8 +24,9 @@ use Rattle.state.specs.Settings.{defaults}
 use Rattle.state.specs.Values.{kindNumber}
 use Rattle.reader.specs.Names.{bytes}
 use Rattle.demands.specs.Run.{World, said, call, run}
-use Rattle.demands.specs.Answers.{isEof, latestIs}
-use Rattle.demands.proofs.Demand1.{turn, position-never-falls, eof-by-length-and-two}
+use Rattle.demands.specs.Answers.{isEof, oneIs}
+use Rattle.demands.proofs.Demand1.{eof-by-length-and-two}
+use Rattle.demands.proofs.Pieces.{pieces-stand-in-the-order-of-calls}
 use Rattle.columns.specs.declared.Summary.{Summary}
 use Rattle.columns.specs.declared.order.Order.{Order}
 use Rattle.columns.specs.declared.text.Text.{Text}
@@ -36,9 +37,9 @@ use Rattle.columns.specs.Order.{time}
 use Rattle.columns.specs.Outcome.{isRefused}
 use Rattle.columns.specs.Told.{isKind, within, textToldAs, textTells, eventTells, tells}
 use Rattle.columns.specs.Column.{Reading, reading, onward, readOf, callsOf, answersOf, readIn, filledWith, Columned, toldIn}
-use Rattle.columns.specs.Words.{Lower, Gave, none, one, refuses, Timed, timeIn, timesTold, Stops, StoppedBy}
+use Rattle.columns.specs.Words.{Lower, Gave, none, one, refuses, Timed, timeIn, timesTold, Stops, EndedBy, StoppedBy}
 use Rattle.columns.proofs.Ordered.{the-index-is-the-first-that-is-lower, kept-order-never-decreases}
-use Rattle.columns.proofs.Turns.{heard, asked, heard-next, heard-over, asked-next, asked-over}
+use Rattle.columns.proofs.Turns.{heard, asked, ended, over, heard-next, heard-over, asked-next, ended-next, unended-next, over-refused, over-ended, not-over, over-on, over-stays, eof-heard}
 
 -- ---- the promise leaves one answer
 
@@ -63,16 +64,31 @@ empty-text : (s : List ℕ) → eqb (length s) 0 ≡ true → s ≡ []
 empty-text [] e = refl
 empty-text (b ∷ s) e = let z : suc (length s) ≡ 0 = eqb-true (suc (length s)) 0 e in absurd (omega arith)
 
+some-text : (s : List ℕ) → eqb (length s) 0 ≡ false → s ≡ [] → ⊥
+some-text s e z = clash (eqb (length s) 0) (ap (λ (l : List ℕ). eqb (length l) 0) z) e
+
 gave : (text : List ℕ) (piece : Span) (empty is : Bool) → eqb (length (cleared text)) 0 ≡ empty → isTime (cleared text) ≡ is
     → Gave text piece (textToldAs piece (pick empty Text.Empty (pick is (Text.Time (value (cleared text))) Text.Other)))
 gave text piece true is e f = none (empty-text (cleared text) e) refl
 gave text piece false true e f = one f refl
-gave text piece false false e f = refuses f refl
+gave text piece false false e f = refuses (some-text (cleared text) e) f refl
 
--- THEOREM: "each Text within `t` gives one value, none, or the refusal"
-pub each-text-gives-a-value-none-or-the-refusal : (text : List ℕ) (piece : Span) → Gave text piece (textTells text piece)
+text-gives : (text : List ℕ) (piece : Span) → Gave text piece (textTells text piece)
 unfolding textTells readTime
-each-text-gives-a-value-none-or-the-refusal text piece = gave text piece (eqb (length (cleared text)) 0) (isTime (cleared text)) refl refl
+text-gives text piece = gave text piece (eqb (length (cleared text)) 0) (isTime (cleared text)) refl refl
+
+module _ (doc : List ℕ) (names : List Span) (e : Event) (inside : within doc names ≡ true) where
+  -- THEOREM: "each Text within `t` gives one value, none, or the refusal"
+  pub each-text-within-t-gives-a-value-none-or-the-refusal : isKind Kind.Text e ≡ true → Gave (bytes doc (e .content)) (e .piece) (tells doc names (Answer.Event e))
+  unfolding eventTells
+  each-text-within-t-gives-a-value-none-or-the-refusal k = rw (k, inside) (text-gives (bytes doc (e .content)) (e .piece))
+
+  -- THEOREM: "References inside `t` are 30"
+  pub a-reference-within-t-is-refused : isKind Kind.GeneralRef e ≡ true → tells doc names (Answer.Event e) ≡ Told.Refused (Outcome.BadTime (e .piece))
+  unfolding eventTells
+  a-reference-within-t-is-refused k =
+      let n : kindNumber (e .kind) ≡ 5 = eqb-true (kindNumber (e .kind)) (kindNumber Kind.GeneralRef) k in
+      rw (ne-eqb (kindNumber (e .kind)) (kindNumber Kind.Text) (λ z. omega arith), k, inside) refl
 
 module _ (doc : List ℕ) (names : List Span) (v : ℕ) (piece : Span) where
   no-time : {A : Type 0} → Told.Nothing ≡ Told.Time v piece → A
@@ -87,15 +103,15 @@ module _ (doc : List ℕ) (names : List Span) (v : ℕ) (piece : Span) where
   text-timed e k w t (one c f) h =
       let g : Told.Time (value (cleared (bytes doc (e .content)))) (e .piece) ≡ Told.Time v piece = sym f ∙ h in
       record { text = eqb-true (kindNumber (e .kind)) (kindNumber Kind.Text) k; inside = w; is = c; worth = cc; place = cc }
-  text-timed e k w t (refuses c f) h = refuses-no-time (Outcome.BadTime (e .piece)) (sym f ∙ h)
+  text-timed e k w t (refuses n c f) h = refuses-no-time (Outcome.BadTime (e .piece)) (sym f ∙ h)
 
   -- THEOREM: a time is told by a Text within `t` alone, and it is that text's
   pub only-text-within-t-tells-a-time : (a : Answer) → tells doc names a ≡ Told.Time v piece → Timed doc names a v piece
   unfolding eventTells
-  only-text-within-t-tells-a-time (Answer.Refused x) h = refuses-no-time (Outcome.Refused x) h
+  only-text-within-t-tells-a-time (Answer.Refused x) h = refuses-no-time (Outcome.ReaderRefused x) h
   only-text-within-t-tells-a-time (Answer.Event e) h =
       pick-cases M (isKind Kind.Text e) _ _
-      (λ k. pick-cases M (within doc names) _ _ (λ w. text-timed e k w _ (each-text-gives-a-value-none-or-the-refusal (bytes doc (e .content)) (e .piece))) (λ _ g. no-time g))
+      (λ k. pick-cases M (within doc names) _ _ (λ w. text-timed e k w _ (text-gives (bytes doc (e .content)) (e .piece))) (λ _ g. no-time g))
       (λ _.
       pick-cases M (isKind Kind.GeneralRef e) _ _
       (λ _. pick-cases M (within doc names) _ _ (λ _ g. refuses-no-time (Outcome.BadTime (e .piece)) g) (λ _ g. no-time g))
@@ -197,7 +213,6 @@ module _ (doc stack column : List ℕ) where
     pub went : isRefused (read m .outcome) ≡ false
     pub is : read n ≡ read (suc m)
     pub over : isRefused (read (suc m) .outcome) ≡ true
-    pub calls : asked doc stack column n ≡ asked doc stack column (suc m)
 
   first : (n : ℕ) → isRefused (read n .outcome) ≡ true → (m : ℕ) × First n m
   unfolding run readOf
@@ -206,17 +221,26 @@ module _ (doc stack column : List ℕ) where
     where
       by : (t : Bool) → isRefused (read n .outcome) ≡ t → (isRefused (read n .outcome) ≡ true → (m : ℕ) × First n m) → (m : ℕ) × First (suc n) m
       by true f more =
-          let x = more f in (
-            x .0,
-            record {
-              below = omega (arith, x .1 .below);
-              went = x .1 .went;
-              is = heard-over doc stack column n f ∙ x .1 .is;
-              over = x .1 .over;
-              calls = asked-over doc stack column n f ∙ x .1 .calls;
-            },
-          )
-      by false f more = (n, record { below = omega arith; went = f; is = refl; over = e; calls = refl })
+          let x = more f in
+          (x .0, record { below = omega (arith, x .1 .below); went = x .1 .went; is = heard-over doc stack column n f ∙ x .1 .is; over = x .1 .over })
+      by false f more = (n, record { below = omega arith; went = f; is = refl; over = e })
+
+  -- where an answer is Eof, one was it first
+  record FirstEof (m k : ℕ) : Type 0 where
+    pub below : k < m
+    pub eof : isEof (said doc (after k)) ≡ true
+    pub unended : ended doc stack column k ≡ false
+
+  first-eof : (m : ℕ) → ended doc stack column m ≡ true → (k : ℕ) × FirstEof m k
+  unfolding run oneIs
+  first-eof zero e = clash false e refl
+  first-eof (suc m) e = by (ended doc stack column m) refl (isEof (said doc (after m))) refl (first-eof m)
+    where
+      by : (t : Bool) → ended doc stack column m ≡ t → (u : Bool) → isEof (said doc (after m)) ≡ u
+          → (ended doc stack column m ≡ true → (k : ℕ) × FirstEof m k) → (k : ℕ) × FirstEof (suc m) k
+      by true f u g more = let x = more f in (x .0, record { below = omega (arith, x .1 .below); eof = x .1 .eof; unended = x .1 .unended })
+      by false f true g more = (m, record { below = omega arith; eof = g; unended = f })
+      by false f false g more = clash (ended doc stack column (suc m)) e (unended-next doc stack column m f g)
 
   -- a call before one that goes on goes on
   goes-before : (k m : ℕ) → k ≤ m → isRefused (read m .outcome) ≡ false → isRefused (read k .outcome) ≡ false
@@ -227,20 +251,24 @@ module _ (doc stack column : List ℕ) where
         | no h ↦ let z : k ≡ suc m = omega arith in rw z e
       ]
 
-  -- and counts
-  asked-all : (m : ℕ) → isRefused (read m .outcome) ≡ false → asked doc stack column m ≡ m
+  -- as long as the reading is not over every call is made
+  asked-all : (m : ℕ) → over doc stack column m ≡ false → asked doc stack column m ≡ m
   unfolding run callsOf
   asked-all zero e = refl
-  asked-all (suc m) e = let f = went-on m e in asked-next doc stack column m f ∙ ap suc (asked-all m f)
-
-  asked-within : (n : ℕ) → asked doc stack column n ≤ n
-  unfolding run callsOf
-  asked-within zero = omega arith
-  asked-within (suc n) = by (isRefused (read n .outcome)) refl (asked-within n)
+  asked-all (suc m) e = by (over doc stack column m) refl (asked-all m)
     where
-      by : (t : Bool) → isRefused (read n .outcome) ≡ t → asked doc stack column n ≤ n → asked doc stack column (suc n) ≤ suc n
-      by true e l = omega (arith, asked-over doc stack column n e)
-      by false e l = omega (arith, asked-next doc stack column n e)
+      by : (t : Bool) → over doc stack column m ≡ t → (over doc stack column m ≡ false → asked doc stack column m ≡ m) → asked doc stack column (suc m) ≡ suc m
+      by true f more = clash (over doc stack column (suc m)) (over-on doc stack column m f) e
+      by false f more = asked-next doc stack column m f ∙ ap suc (more f)
+
+  -- so the call with which it is over is the last
+  asked-last : (m n : ℕ) → m < n → over doc stack column m ≡ false → over doc stack column (suc m) ≡ true → asked doc stack column n ≡ suc m
+  asked-last m n l e f =
+      let k : n - suc m + suc m ≡ n = omega arith in
+      ap (asked doc stack column) (sym k)
+      ∙ over-stays doc stack column (suc m) f (n - suc m) .1
+      ∙ asked-next doc stack column m e
+      ∙ ap suc (asked-all m e)
 
   -- one that goes on is no stop
   no-stop : (k : ℕ) (outcome : Outcome) → isRefused (read (suc k) .outcome) ≡ false → Stops room (timesTold doc (after k .answers)) (toldIn doc (after k)) outcome → ⊥
@@ -251,30 +279,69 @@ module _ (doc stack column : List ℕ) where
       (ap (λ (r : Reading). isRefused (r .outcome)) (sym h) ∙ e)
       (subst (λ (ts : List ℕ). Stops room ts (toldIn doc (after k)) outcome) (sym (all-told k f)) s)
 
-  -- the reading is stopped by the first call that does
-  stopped : isRefused (read (length doc + 2) .outcome) ≡ true → (m : ℕ) × StoppedBy doc stack room (read (length doc + 2)) m
-  stopped e =
-      let x = first (length doc + 2) e in
-      let m = x .0 in
-      let f = x .1 in
-      let h = heard-next doc stack column m (f .went) in
-      let s = onward-stops room (read m) (toldIn doc (after m)) (f .went) (ap (λ (r : Reading). isRefused (r .outcome)) (sym h) ∙ f .over) (in-room m) in
-      let t : read (length doc + 2) .times ≡ read m .times = ap (λ (r : Reading). r .times) (f .is ∙ h) ∙ s .0 in (
-        m,
-        record {
-          times = t ∙ all-told m (f .went);
-          stops =
-              subst (λ (r : Reading). Stops room (r .times) (toldIn doc (after m)) (r .outcome)) (sym (f .is ∙ h))
-              (subst (λ (ts : List ℕ). Stops room ts (toldIn doc (after m)) (onward room (read m) (toldIn doc (after m)) .outcome)) (sym (s .0)) (s .1));
-          before = λ k outcome l. no-stop k outcome (goes-before (suc k) m (omega arith) (f .went));
-          calls = f .calls ∙ asked-next doc stack column m (f .went) ∙ ap suc (asked-all m (f .went));
-        },
-      )
+  module _ (short : length doc ≤ longest) where
+    -- no answer before one that is refused is Eof
+    unended-before : (m : ℕ) → isRefused (read m .outcome) ≡ false → isRefused (read (suc m) .outcome) ≡ true → ended doc stack column m ≡ false
+    unended-before m went over-now = by (ended doc stack column m) refl
+      where
+        by : (t : Bool) → ended doc stack column m ≡ t → t ≡ false
+        by false e = refl
+        by true e =
+            let x = first-eof m e in
+            let k = x .0 in
+            let goes = goes-before k m (omega (arith, x .1 .below)) went in
+            let j : m - k + suc k ≡ suc m = omega (arith, x .1 .below) in
+            let h : read (suc m) ≡ read k = ap read (sym j) ∙ eof-heard doc stack column short k goes (x .1 .eof) (m - k) in
+            clash (isRefused (read (suc m) .outcome)) over-now (ap (λ (r : Reading). isRefused (r .outcome)) h ∙ goes)
+
+    -- the reading is stopped by the first call that does
+    stopped : isRefused (read (length doc + 2) .outcome) ≡ true → (m : ℕ) × StoppedBy doc stack room (read (length doc + 2)) m
+    stopped e =
+        let x = first (length doc + 2) e in
+        let m = x .0 in
+        let f = x .1 in
+        let h = heard-next doc stack column m (f .went) in
+        let s = onward-stops room (read m) (toldIn doc (after m)) (f .went) (ap (λ (r : Reading). isRefused (r .outcome)) (sym h) ∙ f .over) (in-room m) in
+        let t : read (length doc + 2) .times ≡ read m .times = ap (λ (r : Reading). r .times) (f .is ∙ h) ∙ s .0 in (
+          m,
+          record {
+            times = t ∙ all-told m (f .went);
+            stops =
+                subst (λ (r : Reading). Stops room (r .times) (toldIn doc (after m)) (r .outcome)) (sym (f .is ∙ h))
+                (subst (λ (ts : List ℕ). Stops room ts (toldIn doc (after m)) (onward room (read m) (toldIn doc (after m)) .outcome)) (sym (s .0)) (s .1));
+            before = λ k outcome l. no-stop k outcome (goes-before (suc k) m (omega arith) (f .went));
+            calls =
+                asked-last m (length doc + 2) (f .below)
+                (not-over doc stack column m (f .went) (unended-before m (f .went) (f .over)))
+                (over-refused doc stack column (suc m) (f .over));
+          },
+        )
+
+    -- one that nothing stops comes to Eof
+    ended-by : isRefused (read (length doc + 2) .outcome) ≡ false → (n : ℕ) × EndedBy doc stack room n
+    unfolding run call oneIs
+    ended-by e =
+        let two : length doc + 2 ≡ suc (length doc + 1) = omega arith in
+        let end : ended doc stack column (length doc + 2) ≡ true =
+        subst (λ (n : ℕ). ended doc stack column n ≡ true) (sym two) (ended-next doc stack column (length doc + 1) (eof-by-length-and-two doc stack defaults short)) in
+        let x = first-eof (length doc + 2) end in
+        let n = x .0 in (
+          n,
+          record {
+            eof = x .1 .eof;
+            in-time = x .1 .below;
+            unstopped = λ k outcome l. no-stop k outcome (goes-before (suc k) (length doc + 2) (omega arith) e);
+            calls =
+                asked-last n (length doc + 2) (x .1 .below)
+                (not-over doc stack column n (goes-before n (length doc + 2) (omega (arith, x .1 .below)) e) (x .1 .unended))
+                (over-ended doc stack column (suc n) (ended-next doc stack column n (x .1 .eof)));
+          },
+        )
 
   -- ---- the theorems
 
   -- THEOREM: "16 where the document is too long"
-  pub too-long-is-16 : longest < length doc → readIn doc stack room ≡ reading [] (Outcome.Refused (refusal Error.SliceTooLong (at 0) (span 0 0)))
+  pub too-long-is-16 : longest < length doc → readIn doc stack room ≡ reading [] (Outcome.ReaderRefused (refusal Error.SliceTooLong (at 0) (span 0 0)))
   unfolding readIn made
   too-long-is-16 l = rw (lt-ltb longest (length doc) l) refl
 
@@ -293,25 +360,18 @@ module _ (doc stack column : List ℕ) where
     pub the-first-refusal-ends-the-reading : isRefused (readIn doc stack room .outcome) ≡ true → (n : ℕ) × StoppedBy doc stack room (readIn doc stack room) n
     the-first-refusal-ends-the-reading e =
         subst (λ (r : Reading). (n : ℕ) × StoppedBy doc stack room r n) (sym is-read)
-        (stopped (ap (λ (r : Reading). isRefused (r .outcome)) (sym is-read) ∙ e))
+        (stopped short (ap (λ (r : Reading). isRefused (r .outcome)) (sym is-read) ∙ e))
 
-    -- THEOREM: the times are told in document order: the piece of one ends before that of a later one begins
+    -- THEOREM: it ends, by demand 1's bound: where nothing is refused, a call answers Eof by number length + 2, it is the last that is made, and no call stops the reading
+    pub it-ends : readIn doc stack room .outcome ≡ Outcome.Whole → (n : ℕ) × EndedBy doc stack room n
+    it-ends e = ended-by short (ap (λ (r : Reading). isRefused (r .outcome)) (sym is-read) ∙ ap isRefused e)
+
+    -- THEOREM: the times are told in document order: the piece of one ends where that of a later one begins, or before
     pub times-are-told-in-document-order : (m n v w : ℕ) (p q : Span) → m < n → toldIn doc (after m) ≡ Told.Time v p → toldIn doc (after n) ≡ Told.Time w q → p .to ≤ q .from
-    unfolding run call
     times-are-told-in-document-order m n v w p q l e f =
         let a = only-text-within-t-tells-a-time doc _ v p (said doc (after m)) e in
         let b = only-text-within-t-tells-a-time doc _ w q (said doc (after n)) f in
-        let k : n - suc m + suc m ≡ n = omega arith in
-        let up : after (suc m) .reader .position .0 ≤ after n .reader .position .0 =
-        rw k at (position-never-falls doc stack defaults short (suc m) (n - suc m)) in
-        rw (a .place, b .place) (omega (arith, turn doc stack defaults short m .left, turn doc stack defaults short n .after, up))
-
-    -- THEOREM: it ends: end of file comes within the calls that are made at most, so where nothing is refused it was reached
-    pub it-ends : (latestIs isEof (answersOf doc stack) ≡ true) × (callsOf doc room (answersOf doc stack) ≤ length doc + 2)
-    unfolding run call
-    it-ends =
-        let e : length doc + 2 ≡ suc (length doc + 1) = omega arith in
-        (subst (λ (n : ℕ). latestIs isEof (after n .answers) ≡ true) (sym e) (eof-by-length-and-two doc stack defaults short), asked-within (length doc + 2))
+        rw (a .place, b .place) (pieces-stand-in-the-order-of-calls doc stack defaults short m n l)
 
 -- ---- the slots
 
@@ -339,6 +399,16 @@ module _ (doc stack column : List ℕ) (s : Summary) (stack' column' : List ℕ)
       rw (the-first-slots-are-the-times i (omega arith), the-first-slots-are-the-times j h)
       (kept-order-never-decreases times (sym (p .order) ∙ e) i j l (omega (arith, p .count)))
 
-  -- THEOREM: else the index given is the first whose time is lower than the one before it
-  pub the-index-given-is-the-first : Gives Order.LowerAt (s .order) (Lower times)
-  the-index-given-is-the-first = rw (p .order) (the-index-is-the-first-that-is-lower times)
+  -- THEOREM: else the index given is the first of its slots that is lower than the one before it
+  pub the-index-given-is-the-first : Gives Order.LowerAt (s .order) (Lower (take (s .count) column'))
+  the-index-given-is-the-first =
+      let e : take (s .count) column' ≡ times = rw (p .count, p .slots) (take-append-seam _ _) in
+      rw (p .order, e) (the-index-is-the-first-that-is-lower times)
+
+  -- THEOREM: the times stand in the column
+  pub the-count-is-within-the-column : s .count ≤ length column'
+  the-count-is-within-the-column = rw (p .count, p .slots) (omega (arith, length-append times (drop (length times) column)))
+
+  -- so the slots up to the count are as many
+  pub the-times-are-counted : s .count ≡ length (take (s .count) column')
+  the-times-are-counted = omega (arith, length-take (s .count) column', the-count-is-within-the-column)

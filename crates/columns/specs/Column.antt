@@ -1,6 +1,7 @@
 -- The column that the answers of a run tell, and THE PROMISE of `column` (document 02, M-111).
 use Prim.Native.Nat.{ℕ, suc, _+_}
 use mathlib.Core.Path.{_≡_}
+use mathlib.Core.Bool.{Bool, true}
 use mathlib.Core.List.{List, [], _∷_, _++_}
 use lib.ListN.{length, drop}
 use lib.Dec.{ltb}
@@ -10,6 +11,7 @@ use Rattle.state.specs.declared.run.Made.{Made}
 use Rattle.state.specs.Make.{made}
 use Rattle.state.specs.Settings.{defaults}
 use Rattle.demands.specs.Run.{World, said, run}
+use Rattle.demands.specs.Answers.{isEof, oneIs}
 use Rattle.demands.specs.Open.{leftOpen}
 use Rattle.columns.specs.declared.Summary.{Summary}
 use Rattle.columns.specs.declared.outcome.Outcome.{Outcome}
@@ -44,10 +46,14 @@ module _ (doc : List ℕ) (room : ℕ) where
   readOf (a ∷ before) =
       pick (isRefused (readOf before .outcome)) (readOf before) (onward room (readOf before) (tells doc (leftOpen (a ∷ before)) a))
 
-  -- how many answers were asked for: up to the one that is refused
+  -- nothing is read after a refusal, or after Eof
+  abbrev pub isOver : List Answer → Bool
+  isOver answers = pick (isRefused (readOf answers .outcome)) true (oneIs isEof answers)
+
+  -- how many calls are made: up to the one with which it is over
   unfoldable pub callsOf : List Answer → ℕ
   callsOf [] = 0
-  callsOf (a ∷ before) = pick (isRefused (readOf before .outcome)) (callsOf before) (suc (callsOf before))
+  callsOf (a ∷ before) = pick (isOver before) (callsOf before) (suc (callsOf before))
 
 -- the answers of a run, to its end
 abbrev pub answersOf : List ℕ → List ℕ → List Answer
@@ -56,7 +62,7 @@ answersOf doc stack = run doc stack defaults (length doc + 2) .answers
 module _ (doc stack : List ℕ) (room : ℕ) where
   abbrev pub readAs : Made → Reading
   readAs (Made.Fresh r) = readOf doc room (answersOf doc stack)
-  readAs (Made.Refused x) = reading [] (Outcome.Refused x)
+  readAs (Made.Refused x) = reading [] (Outcome.ReaderRefused x)
 
   abbrev pub leftAs : Made → List ℕ
   leftAs (Made.Fresh r) = run doc stack defaults (callsOf doc room (answersOf doc stack)) .stack

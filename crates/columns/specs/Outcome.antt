@@ -9,7 +9,7 @@ use Rattle.columns.specs.declared.outcome.Outcome.{Outcome}
 
 abbrev pub isRefused : Outcome → Bool
 isRefused Outcome.Whole = false
-isRefused (Outcome.Refused x) = true
+isRefused (Outcome.ReaderRefused x) = true
 isRefused (Outcome.BadTime piece) = true
 isRefused (Outcome.ColumnFull piece) = true
 
@@ -30,6 +30,6 @@ refusalOf number piece =
 -- "any of the reader's, then 30 for bad time text, 31 when the column is full and one more time stands there"; all 0 where nothing is refused
 abbrev pub valuesOf : Outcome → Values
 valuesOf Outcome.Whole = refusalOf 0 (span 0 0)
-valuesOf (Outcome.Refused x) = refusalValues x
+valuesOf (Outcome.ReaderRefused x) = refusalValues x
 valuesOf (Outcome.BadTime piece) = refusalOf 30 piece
 valuesOf (Outcome.ColumnFull piece) = refusalOf 31 piece

@@ -63,12 +63,12 @@ readTime s = pick (eqb (length (cleared s)) 0) Text.Empty (pick (isTime (cleared
 
 -- ---- a value printed
 
--- the byte at a place of a value's time, and all five
+-- a byte of a value's time by its index, and all five
 unfoldable pub speltAt : ℕ → ℕ → ℕ
-speltAt v place =
-    pick (eqb place 0)
+speltAt v index =
+    pick (eqb index 0)
     (zeroDigit + v / 60 / 10 % 10)
-    (pick (eqb place 1) (zeroDigit + v / 60 % 10) (pick (eqb place 2) colon (pick (eqb place 3) (zeroDigit + v % 60 / 10) (zeroDigit + v % 60 % 10))))
+    (pick (eqb index 1) (zeroDigit + v / 60 % 10) (pick (eqb index 2) colon (pick (eqb index 3) (zeroDigit + v % 60 / 10) (zeroDigit + v % 60 % 10))))
 
 abbrev pub spelt : ℕ → List ℕ
 spelt v = speltAt v 0 ∷ speltAt v 1 ∷ speltAt v 2 ∷ speltAt v 3 ∷ speltAt v 4 ∷ []

@@ -50,4 +50,4 @@ module _ (doc : List ℕ) (names : List Span) where
   -- an answer, where these names are open: "any of the reader's" refusals is the column's
   abbrev pub tells : Answer → Told
   tells (Answer.Event e) = eventTells e
-  tells (Answer.Refused x) = Told.Refused (Outcome.Refused x)
+  tells (Answer.Refused x) = Told.Refused (Outcome.ReaderRefused x)

@@ -1,5 +1,5 @@
 -- What the theorems on times and columns say, in words.
-use Prim.Native.Nat.{ℕ, suc, _-_, _≤_, _<_}
+use Prim.Native.Nat.{ℕ, suc, _+_, _-_, _≤_, _<_}
 use mathlib.Core.Path.{_≡_}
 use mathlib.Core.Logic.{_⊎_}
 use mathlib.Core.Bool.{true, false}
@@ -11,7 +11,8 @@ use Rattle.state.specs.declared.answer.Answer.{Answer}
 use Rattle.state.specs.Settings.{defaults}
 use Rattle.state.specs.Values.{kindNumber, valuesOf}
 use Rattle.reader.specs.Names.{bytes}
-use Rattle.demands.specs.Run.{run}
+use Rattle.demands.specs.Run.{said, run}
+use Rattle.demands.specs.Answers.{isEof}
 use Rattle.demands.specs.Open.{leftOpen}
 use Rattle.columns.specs.declared.told.Told.{Told}
 use Rattle.columns.specs.declared.outcome.Outcome.{Outcome}
@@ -39,7 +40,7 @@ Lower ts i = (1 ≤ i) × (i < length ts) × (time ts i < time ts (i - 1))
 pub data Gave (text : List ℕ) (piece : Span) (t : Told) : Type 0 where
   none : cleared text ≡ [] → t ≡ Told.Nothing → Gave text piece t
   one : isTime (cleared text) ≡ true → t ≡ Told.Time (value (cleared text)) piece → Gave text piece t
-  refuses : isTime (cleared text) ≡ false → t ≡ Told.Refused (Outcome.BadTime piece) → Gave text piece t
+  refuses : (cleared text ≡ [] → ⊥) → isTime (cleared text) ≡ false → t ≡ Told.Refused (Outcome.BadTime piece) → Gave text piece t
 
 -- an answer that tells a time: a Text within `t`, and what the time is
 pub record Timed (doc : List ℕ) (names : List Span) (a : Answer) (v : ℕ) (piece : Span) : Type 0 where
@@ -66,6 +67,13 @@ abbrev pub Stops : ℕ → List ℕ → Told → Outcome → Type 0
 Stops room times Told.Nothing outcome = ⊥
 Stops room times (Told.Time value piece) outcome = (length times ≡ room) × (outcome ≡ Outcome.ColumnFull piece)
 Stops room times (Told.Refused why) outcome = (isRefused why ≡ true) × (outcome ≡ why)
+
+-- the reading comes to its end: call n + 1 answers Eof, within the bound, and no call stops it
+pub record EndedBy (doc stack : List ℕ) (room n : ℕ) : Type 0 where
+  pub eof : isEof (said doc (run doc stack defaults n)) ≡ true
+  pub in-time : n < length doc + 2
+  pub unstopped : (k : ℕ) (outcome : Outcome) → k < length doc + 2 → Stops room (timesTold doc (run doc stack defaults k .answers)) (toldIn doc (run doc stack defaults k)) outcome → ⊥
+  pub calls : callsOf doc room (answersOf doc stack) ≡ suc n
 
 -- "the first from the left": call n + 1 stops the reading, and none before it does
 pub record StoppedBy (doc stack : List ℕ) (room : ℕ) (r : Reading) (n : ℕ) : Type 0 where

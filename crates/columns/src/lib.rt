@@ -43,7 +43,7 @@ pub fn column(document: &[u8], stack: &mut [usize], column: &mut [usize]) -> Sum
     match Reader::new(document, Config::default()) {
         Made::Refused(refusal) => Summary {
             count: 0,
-            outcome: Outcome::Refused(refusal),
+            outcome: Outcome::ReaderRefused(refusal),
             order: Order::Kept,
         },
         Made::Fresh(fresh) => {

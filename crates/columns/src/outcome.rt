@@ -9,7 +9,7 @@ pub enum Outcome {
     // The whole document was read.
     Whole,
     // The reader refused it.
-    Refused(Refusal),
+    ReaderRefused(Refusal),
     // This piece is text that is no time, or a reference.
     BadTime(Span),
     // This piece is one more time than the column has slots.
@@ -27,7 +27,7 @@ impl Outcome {
     {
         match self {
             Outcome::Whole => false,
-            Outcome::Refused(_) => true,
+            Outcome::ReaderRefused(_) => true,
             Outcome::BadTime(_) => true,
             Outcome::ColumnFull(_) => true,
         }
@@ -39,7 +39,7 @@ impl Outcome {
     {
         match self {
             Outcome::Whole => refusal(0, Span { from: 0, to: 0 }),
-            Outcome::Refused(refusal) => refusal.values(),
+            Outcome::ReaderRefused(refusal) => refusal.values(),
             Outcome::BadTime(piece) => refusal(BAD_TIME, piece),
             Outcome::ColumnFull(piece) => refusal(COLUMN_FULL, piece),
         }

@@ -3,13 +3,13 @@ ghost use mathlib.Core.Path.{_≡_};
 ghost use Prim.Native.Nat.{_+_, _≤_};
 ghost use Rattle.columns.specs.Time.{zeroDigit, speltAt};
 
-// The byte at `place`, from 0 to 4, of the text of a value; past it the last one.
-pub fn spell(value: usize, place: usize) -> u8
-    ensures { λ r. ⌜ r ≡ speltAt value place ⌝ }
+// The byte with this index, from 0 to 4, of the text of a value; past it the last one. Of the hours the last two digits are printed: a time has no more.
+pub fn spell(value: usize, index: usize) -> u8
+    ensures { λ r. ⌜ r ≡ speltAt value index ⌝ }
 {
     let hours = value / 60;
     let minutes = value % 60;
-    match place {
+    match index {
         0 => digit_for(hours / 10 % 10),
         1 => digit_for(hours % 10),
         2 => b':',

@@ -47,7 +47,7 @@ pub fn tells(document: &[u8], stack: &[usize], depth: Depth, answer: Answer) -> 
     ensures { λ r. ⌜ r ≡ tellsOf (now (document .entry)) (entries (now (stack .entry)) (depth .0)) answer ⌝ }
 {
     match answer {
-        Answer::Refused(refusal) => Told::Refused(Outcome::Refused(refusal)),
+        Answer::Refused(refusal) => Told::Refused(Outcome::ReaderRefused(refusal)),
         Answer::Event(event) => {
             let kind = event.kind;
             let number = kind.number();

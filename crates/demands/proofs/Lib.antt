@@ -9,6 +9,7 @@ pub mod Held
 pub mod Joined
 pub mod Longer
 pub mod OtherSettings
+pub mod Pieces
 pub mod Pinned
 pub mod Unclosed
 pub mod Worked
