@@ -172,7 +172,7 @@ size_t sporebasket_content(const uint8_t *document, size_t length, size_t from, 
  * passed over.
  * It answers 0, or the number of the first refusal, which ends the reading: one of sporebasket_read_event, be it one after which a reader could go on, 30, or 31
  * where the column is full and one more time stands there (text that is no time is 30 there too). The times before it stay in the column, and COUNT and LOWER are
- * theirs. Slots of the column past COUNT are left alone, and the stack is left as the reader's calls leave it. 16: the document is too long, and nothing but the
+ * theirs. Slots of the column past COUNT and of the answer past those named above are left alone, and the stack is left as the reader's calls leave it. 16: the document is too long, and nothing but the
  * answer is written; 17, before all else: the answer has too few slots, and nothing is written.
  * Where the stack (15) or the column (31) was too short, lend a longer one and call again: the document is then read from its start. No column needs more slots than
  * a fifth of the document's bytes, since a time has five. */

@@ -81,7 +81,7 @@ int main(int argc, char **argv)
 
     if (done) {
         say(column.first, answer);
-        done = fflush(stdout) == 0;
+        done = fflush(stdout) == 0 && !ferror(stdout);
     }
     if (!done) {
         perror("column");

@@ -94,7 +94,7 @@ int main(int argc, char **argv)
     struct lent lent = {NULL, 0, {0}, {0}};
     size_t length = 0;
     uint8_t *document = in == NULL ? NULL : whole(in, &length);
-    int done = document != NULL && list(document, length, check, &lent) && fflush(stdout) == 0;
+    int done = document != NULL && list(document, length, check, &lent) && fflush(stdout) == 0 && !ferror(stdout);
 
     if (!done) {
         perror("events");

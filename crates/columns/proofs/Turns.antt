@@ -41,7 +41,7 @@ use Rattle.columns.specs.declared.outcome.Outcome.{Outcome}
 use Rattle.columns.specs.Order.{orderOf}
 use Rattle.columns.specs.Outcome.{isRefused}
 use Rattle.columns.specs.Told.{eventTells, tells}
-use Rattle.columns.specs.Column.{Reading, reading, onward, readOf, isOver, callsOf, answersOf, readIn, stackLeft, filledWith, Columned, toldIn}
+use Rattle.columns.specs.Column.{Reading, reading, onward, readOf, isOver, callsOf, readIn, stackLeft, filledWith, Columned, toldIn}
 use Rattle.columns.specs.Inside.{filledBy, slotsBy, ReadTo}
 
 -- ---- a column and its times
@@ -59,6 +59,18 @@ filled-more times column value l =
     ∙ set-append-seam times (getD column n 0) (drop (n + 1) column) value
     ∙ sym (append-snoc times value (drop (n + 1) column))
     ∙ ap (λ (k : ℕ). (times ++ (value ∷ [])) ++ drop k column) (sym e)
+
+-- times that fill a column stand in it, and are its first slots
+pub record Filling (times : List ℕ) (count : ℕ) (column : List ℕ) : Type 0 where
+  pub fits : count ≤ length column
+  pub counted : count ≡ length (take count column)
+  pub first : take count column ≡ times
+
+pub filling : (times column column' : List ℕ) (count : ℕ) → count ≡ length times → column' ≡ filledWith times column → Filling times count column'
+filling times column column' count e f =
+    let first : take count column' ≡ times = rw (e, f) (take-append-seam times (drop (length times) column)) in
+    let counted : count ≡ length (take count column') = e ∙ ap length (sym first) in
+    record { fits = omega (arith, length-take count column'); counted = counted; first = first }
 
 -- ---- what one answer does
 
@@ -342,6 +354,18 @@ module _ (doc stack₀ column₀ stack column : List ℕ) (r : Reader) (i count 
 
 pub ruleset reads = (needs, going-first, names-have-slots, read-whole, read-eof, going-on, read-refused)
 
+-- ---- what was read stands in the column
+
+module _ (doc stack column : List ℕ) (f : Filled) (stack' column' : List ℕ) (p : ReadTo doc stack column f stack' column') where
+  read-filling : Filling (heard doc stack column (length doc + 2) .times) (f .count) column'
+  read-filling = filling (heard doc stack column (length doc + 2) .times) column column' (f .count) (p .count) (p .slots)
+
+  pub times-fit : f .count ≤ length column'
+  times-fit = read-filling .fits
+
+  pub times-count : f .count ≡ length (take (f .count) column')
+  times-count = read-filling .counted
+
 -- ---- a reader is made, or none
 
 module _ (doc stack column : List ℕ) (m : Made) (c : Config) (given : c ≡ defaults) (e : m ≡ made (length doc) c) where
@@ -360,22 +384,12 @@ module _ (doc stack column : List ℕ) (m : Made) (c : Config) (given : c ≡ de
     unfolding readIn stackLeft
     columned o eo =
         let g = made-fresh r is in
-        let t : take (f .count) column' ≡ readOf doc (length column) (answersOf doc stack) .times =
-        rw (p .count, p .slots) (take-append-seam _ _) in
         record {
           count = rw g (p .count);
           refusal = rw g (p .refusal);
-          order = rw g (eo ∙ ap orderOf t);
+          order = rw g (eo ∙ ap orderOf (read-filling doc stack column f stack' column' p .first));
           slots = rw g (p .slots);
           names = rw g (p .names);
         }
-
-pub times-fit : (doc stack column : List ℕ) (f : Filled) (stack' column' : List ℕ) → ReadTo doc stack column f stack' column' → f .count ≤ length column'
-times-fit doc stack column f stack' column' p =
-    rw (p .count, p .slots) (omega (arith, length-append (readOf doc (length column) (answersOf doc stack) .times) (drop (length (readOf doc (length column) (answersOf doc stack) .times)) column)))
-
-pub times-count : (doc stack column : List ℕ) (f : Filled) (stack' column' : List ℕ) → ReadTo doc stack column f stack' column'
-    → f .count ≡ length (take (f .count) column')
-times-count doc stack column f stack' column' p = omega (arith, length-take (f .count) column', times-fit doc stack column f stack' column' p)
 
 pub ruleset columns = (needs, made-fresh, columned-not, columned, times-fit)

@@ -5,8 +5,8 @@ use mathlib.Core.List.{List, [], _∷_, _++_, append-nil}
 use mathlib.Core.Bool.{Bool, true, false}
 use native.Mathlib.Omega.{arith}
 use native.Mathlib.Decide.{decLt}
-use lib.ListN.{length, getD, take, drop, length-append, length-take, List·getD-append}
-use lib.Seq.{getD-append-add, getD-drop, take-append-seam}
+use lib.ListN.{length, getD, take, drop, length-append, List·getD-append}
+use lib.Seq.{getD-append-add, getD-drop}
 use lib.Dec.{eqb, ltb}
 use borrow.Author.Tests.{eqb-true, ne-eqb, ltb-true, ltb-false, lt-ltb, le-ltb}
 use Rattle.ground.specs.Choose.{pick}
@@ -39,7 +39,7 @@ use Rattle.columns.specs.Told.{isKind, within, textToldAs, textTells, ev
 use Rattle.columns.specs.Column.{Reading, reading, onward, readOf, callsOf, answersOf, readIn, filledWith, Columned, toldIn}
 use Rattle.columns.specs.Words.{Lower, Gave, none, one, refuses, Timed, timeIn, timesTold, Stops, EndedBy, StoppedBy}
 use Rattle.columns.proofs.Ordered.{the-index-is-the-first-that-is-lower, kept-order-never-decreases}
-use Rattle.columns.proofs.Turns.{heard, asked, ended, over, heard-next, heard-over, asked-next, ended-next, unended-next, over-refused, over-ended, not-over, over-on, over-stays, eof-heard}
+use Rattle.columns.proofs.Turns.{filling, heard, asked, ended, over, heard-next, heard-over, asked-next, ended-next, unended-next, over-refused, over-ended, not-over, over-on, over-stays, eof-heard}
 
 -- ---- the promise leaves one answer
 
@@ -401,14 +401,12 @@ module _ (doc stack column : List ℕ) (s : Summary) (stack' column' : List ℕ)
 
   -- THEOREM: else the index given is the first of its slots that is lower than the one before it
   pub the-index-given-is-the-first : Gives Order.LowerAt (s .order) (Lower (take (s .count) column'))
-  the-index-given-is-the-first =
-      let e : take (s .count) column' ≡ times = rw (p .count, p .slots) (take-append-seam _ _) in
-      rw (p .order, e) (the-index-is-the-first-that-is-lower times)
+  the-index-given-is-the-first = rw (p .order, filling times column column' (s .count) (p .count) (p .slots) .first) (the-index-is-the-first-that-is-lower times)
 
   -- THEOREM: the times stand in the column
   pub the-count-is-within-the-column : s .count ≤ length column'
-  the-count-is-within-the-column = rw (p .count, p .slots) (omega (arith, length-append times (drop (length times) column)))
+  the-count-is-within-the-column = filling times column column' (s .count) (p .count) (p .slots) .fits
 
-  -- so the slots up to the count are as many
+  -- THEOREM: and the slots up to the count are as many
   pub the-times-are-counted : s .count ≡ length (take (s .count) column')
-  the-times-are-counted = omega (arith, length-take (s .count) column', the-count-is-within-the-column)
+  the-times-are-counted = filling times column column' (s .count) (p .count) (p .slots) .counted

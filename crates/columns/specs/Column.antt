@@ -1,4 +1,4 @@
--- The column that the answers of a run tell, and THE PROMISE of `column` (document 02, M-111).
+-- The column that the answers of a run tell, and THE PROMISE of `column` (document 02).
 use Prim.Native.Nat.{ℕ, suc, _+_}
 use mathlib.Core.Path.{_≡_}
 use mathlib.Core.Bool.{Bool, true}

@@ -1,5 +1,5 @@
--- Whether times never decrease (document 02, M-111).
-use Prim.Native.Nat.{ℕ, _+_, _-_}
+-- Whether times never decrease (document 02).
+use Prim.Native.Nat.{ℕ, _+_}
 use mathlib.Core.List.{List, [], _∷_}
 use lib.ListN.{getD}
 use lib.Dec.{ltb}

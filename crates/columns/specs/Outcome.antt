@@ -1,4 +1,4 @@
--- The refusals of the column reader, and their numbers (document 02, M-111).
+-- The refusals of the column reader, and their numbers (document 02).
 use Prim.Native.Nat.{ℕ}
 use mathlib.Core.Bool.{Bool, true, false}
 use Rattle.state.specs.declared.place.Span.{Span}

@@ -1,4 +1,4 @@
--- The text of a time (document 02, M-111).
+-- The text of a time (document 02).
 use Prim.Native.Nat.{ℕ, _+_, _-_, _*_, _/_, _%_}
 use mathlib.Core.List.{List, [], _∷_}
 use mathlib.Core.Bool.{Bool, false}

@@ -1,4 +1,4 @@
--- What an answer tells of the column (document 02, M-111).
+-- What an answer tells of the column (document 02).
 use Prim.Native.Nat.{ℕ}
 use mathlib.Core.List.{List, [], _∷_}
 use mathlib.Core.Bool.{Bool, false}

@@ -1,4 +1,4 @@
-// The column reader: the times of a document's elements `t`, in a lent column. A library above the reader, proved from the reader's promises alone.
+// The column reader: the times of a document's elements `t`, in a lent column. A library above the reader, proved from its promise and the theorems of `demands`.
 mod names;
 pub mod order;
 pub mod outcome;

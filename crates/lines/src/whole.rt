@@ -3,7 +3,7 @@ use crate::line::say_numbers;
 use libc::STDIN_FILENO;
 
 // The most bytes that they read.
-pub const LARGEST: usize = 65536;
+const LARGEST: usize = 65536;
 
 // Whether n bytes are as many as are read, and standard input has another.
 pub fn more(n: usize) -> bool {

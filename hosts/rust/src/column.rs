@@ -278,7 +278,8 @@ impl error::Error for ColumnError {
 /// How many characters of a text that is no time are told by a message.
 const SHOWN: usize = 32;
 
-/// The refusals for want of room, and that of text or a reference within `t`. With room for all times 31 does not come.
+/// The refusals for want of room, and that of text or a reference within `t`. With room for all times 31 does not come; if it came, it would be told as the
+/// archive's fault (17).
 const NAME_STACK_FULL: usize = 15;
 const COLUMN_FULL: usize = 31;
 const BAD_TIME: usize = 30;
