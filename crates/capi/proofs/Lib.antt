@@ -1,5 +1,4 @@
 pub mod Calls
-pub mod Columns
 pub mod Growing
 pub mod Hosts
 pub mod Marks

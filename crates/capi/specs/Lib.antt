@@ -3,4 +3,3 @@ pub mod Slots
 pub mod Calls
 pub mod Growing
 pub mod Hosts
-pub mod Columns

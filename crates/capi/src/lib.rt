@@ -1,7 +1,6 @@
 // The functions that a host in Rust or C links (include/sporebasket.h): numbers and slices in, numbers out. Each answers 0 or the number of a refusal.
 mod bits;
 mod slots;
-mod summary;
 
 use crate::bits::config;
 use crate::bits::settings_number;
@@ -16,9 +15,6 @@ use crate::slots::placed;
 use crate::slots::put;
 use crate::slots::store;
 use crate::slots::tell;
-use crate::summary::COLUMN_SLOTS;
-use crate::summary::report;
-use columns::column as read_column;
 use reader::advance;
 use state::answer::Error;
 use state::config::Config;
@@ -29,7 +25,6 @@ ghost use mathlib.Core.Path.{_≡_};
 ghost use Rattle.state.specs.Settings.{defaults};
 ghost use Rattle.capi.specs.Numbers.{settingsNumber};
 ghost use Rattle.capi.specs.Calls.{badNumber, Opened, Called, Parted};
-ghost use Rattle.capi.specs.Columns.{ColumnRead};
 
 // The settings of a reader to which none are given.
 #[no_mangle]
@@ -116,25 +111,4 @@ pub extern "C" fn sporebasket_content(
     let numbers = [span.from, span.to];
     put(part, &numbers);
     0
-}
-
-// Fills the first slots of the column with the times of the document, and writes how many there are, their order and the refusal.
-#[no_mangle]
-pub extern "C" fn sporebasket_column(
-    document: &[u8],
-    stack: &mut [usize],
-    column: &mut [usize],
-    answer: &mut [usize],
-) -> usize
-    ensures { λ r. ⌜ ColumnRead (now (document .entry)) (now (stack .entry)) (now (column .entry)) (now (answer .entry)) r (now (stack .exit)) (now (column .exit)) (now (answer .exit)) ⌝ }
-{
-    if answer.len() < COLUMN_SLOTS {
-        return bad_number();
-    }
-    let summary = read_column(document, stack, column);
-    let outcome = summary.outcome;
-    let order = summary.order;
-    let values = outcome.values();
-    report(answer, summary.count, order, values);
-    values.number
 }

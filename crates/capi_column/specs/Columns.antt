@@ -6,13 +6,17 @@ use mathlib.Core.List.{List, [], _∷_}
 use lib.ListN.{length}
 use lib.Dec.{ltb}
 use Rattle.ground.specs.Choose.{pick}
+use Rattle.state.specs.declared.answer.Error.{Error}
 use Rattle.state.specs.declared.answer.Values.{Values}
+use Rattle.state.specs.Values.{numberedOf}
 use Rattle.columns.specs.declared.order.Order.{Order}
 use Rattle.columns.specs.Order.{orderOf, lowerNumber}
 use Rattle.columns.specs.Outcome.{valuesOf}
 use Rattle.columns.specs.Column.{Reading, readIn, stackLeft, filledWith}
-use Rattle.capi.specs.Slots.{put}
-use Rattle.capi.specs.Calls.{badNumber}
+
+-- 17, for what is lent
+abbrev pub badNumber : ℕ
+badNumber = numberedOf Error.BadState .number
 
 -- the count, the order and the refusal, and how many slots that are
 unfoldable pub summaryNumbers : ℕ → Order → Values → List ℕ
@@ -45,4 +49,4 @@ pub record ColumnRead (doc stack column answer : List ℕ) (number : ℕ) (stack
   pub said : number ≡ pick (noRoom answer) badNumber (valuesOf (readIn doc stack (length column) .outcome) .number)
   pub names : stack' ≡ pick (noRoom answer) stack (stackLeft doc stack (length column))
   pub times : column' ≡ pick (noRoom answer) column (filledWith (readIn doc stack (length column) .times) column)
-  pub slots : answer' ≡ put answer (readNumbers (readIn doc stack (length column)))
+  pub slots : answer' ≡ pick (noRoom answer) answer (filledWith (readNumbers (readIn doc stack (length column))) answer)

@@ -1,0 +1,87 @@
+-- What the column reader of a host answers and leaves, from the promises of what it calls. Assumes nothing.
+use Prim.Native.Nat.{ℕ, _≤_, _<_}
+use mathlib.Core.Path.{_≡_, refl, ap, _∙_}
+use mathlib.Core.Bool.{true}
+use mathlib.Core.List.{List, [], _∷_}
+use native.Mathlib.Omega.{arith}
+use lib.ListN.{length, set, length-set}
+use lib.Dec.{ltb}
+use borrow.Author.Needs.{needs}
+use borrow.Author.Tests.{ltb-true}
+use Rattle.ground.proofs.Choices.{pick-lt, pick-nlt}
+use Rattle.state.specs.declared.answer.Values.{Values}
+use Rattle.columns.specs.declared.Summary.{Summary}
+use Rattle.columns.specs.declared.order.Order.{Order}
+use Rattle.columns.specs.Order.{lowerNumber}
+use Rattle.columns.specs.Outcome.{valuesOf}
+use Rattle.columns.specs.Column.{Reading, readIn, filledWith, Columned}
+use Rattle.capi_column.specs.Columns.{badNumber, summaryNumbers, columnSlots, readNumbers, ColumnRead}
+
+-- a slot of the answer, and one after others were written
+pub slot-in : (xs : List ℕ) (i : ℕ) → columnSlots ≤ length xs → ltb i columnSlots ≡ true → i < length xs
+slot-in xs i l e = omega (arith, ltb-true i columnSlots e)
+
+pub slot-still : (xs : List ℕ) (k v i : ℕ) → i < length xs → i < length (set xs k v)
+slot-still xs k v i l = rw (length-set xs k v) l
+
+pub slot-still-behind-four : (xs : List ℕ) (k v l w m x n y i : ℕ) → i < length xs → i < length (set (set (set (set xs k v) l w) m x) n y)
+slot-still-behind-four xs k v l w m x n y i h =
+    omega (arith, length-set xs k v, length-set (set xs k v) l w, length-set (set (set xs k v) l w) m x, length-set (set (set (set xs k v) l w) m x) n y)
+
+-- ten slots written one after the other
+ten : (xs : List ℕ) (a b c d e f g h i j : ℕ) → 10 ≤ length xs
+    → set (set (set (set (set (set (set (set (set (set xs 0 a) 1 b) 2 c) 3 d) 4 e) 5 f) 6 g) 7 h) 8 i) 9 j
+    ≡ filledWith (a ∷ b ∷ c ∷ d ∷ e ∷ f ∷ g ∷ h ∷ i ∷ j ∷ []) xs
+ten [] a b c d e f g h i j l = absurd (omega arith)
+ten (_ ∷ []) a b c d e f g h i j l = absurd (omega arith)
+ten (_ ∷ _ ∷ []) a b c d e f g h i j l = absurd (omega arith)
+ten (_ ∷ _ ∷ _ ∷ []) a b c d e f g h i j l = absurd (omega arith)
+ten (_ ∷ _ ∷ _ ∷ _ ∷ []) a b c d e f g h i j l = absurd (omega arith)
+ten (_ ∷ _ ∷ _ ∷ _ ∷ _ ∷ []) a b c d e f g h i j l = absurd (omega arith)
+ten (_ ∷ _ ∷ _ ∷ _ ∷ _ ∷ _ ∷ []) a b c d e f g h i j l = absurd (omega arith)
+ten (_ ∷ _ ∷ _ ∷ _ ∷ _ ∷ _ ∷ _ ∷ []) a b c d e f g h i j l = absurd (omega arith)
+ten (_ ∷ _ ∷ _ ∷ _ ∷ _ ∷ _ ∷ _ ∷ _ ∷ []) a b c d e f g h i j l = absurd (omega arith)
+ten (_ ∷ _ ∷ _ ∷ _ ∷ _ ∷ _ ∷ _ ∷ _ ∷ _ ∷ []) a b c d e f g h i j l = absurd (omega arith)
+ten (_ ∷ _ ∷ _ ∷ _ ∷ _ ∷ _ ∷ _ ∷ _ ∷ _ ∷ _ ∷ xs) a b c d e f g h i j l = refl
+
+-- the numbers written
+pub summary-put : (xs : List ℕ) (count low : ℕ) (order : Order) (v : Values) → low ≡ lowerNumber order → columnSlots ≤ length xs
+    → set
+    (set
+    (set
+    (set
+    (set
+    (set (set (set (set (set xs 0 count) 1 low) 2 (v .number)) 3 (v .place)) 4 (v .piece .from)) 5
+    (v .piece .to))
+    6
+    (v .expected .from))
+    7
+    (v .expected .to))
+    8
+    (v .found .from))
+    9
+    (v .found .to)
+    ≡ filledWith (summaryNumbers count order v) xs
+unfolding summaryNumbers
+summary-put xs count low order v e l = rw (← e) (ten xs count low _ _ _ _ _ _ _ _ l)
+
+module _ (doc stack column answer : List ℕ) where
+  abbrev read : Reading
+  read = readIn doc stack (length column)
+
+  pub column-not : (n : ℕ) → length answer < columnSlots → n ≡ badNumber → ColumnRead doc stack column answer n stack column answer
+  column-not n l e =
+      record { said = pick-lt _ _ _ _ _ l e; names = pick-lt _ _ _ _ _ l refl; times = pick-lt _ _ _ _ _ l refl; slots = pick-lt _ _ _ _ _ l refl }
+
+  pub column-done : (s : Summary) (v : Values) (stack' column' answer' : List ℕ) → columnSlots ≤ length answer → Columned doc stack column s stack' column'
+      → v ≡ valuesOf (s .outcome) → answer' ≡ filledWith (summaryNumbers (s .count) (s .order) v) answer → ColumnRead doc stack column answer (v .number) stack' column' answer'
+  column-done s v stack' column' answer' l c e f =
+      let w : v ≡ valuesOf (read .outcome) = e ∙ ap valuesOf (c .refusal) in
+      record {
+        said = pick-nlt _ _ _ _ _ l (ap (λ (x : Values). x .number) w);
+        names = pick-nlt _ _ _ _ _ l (c .names);
+        times = pick-nlt _ _ _ _ _ l (c .slots);
+        slots = pick-nlt _ _ _ _ _ l (rw (← c .count, ← c .order, ← w) f);
+      }
+
+pub ruleset columns = (needs, slot-in, slot-still-behind-four, slot-still, summary-put, column-not, column-done)
