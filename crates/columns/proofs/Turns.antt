@@ -75,11 +75,11 @@ filling times column column' count e f =
 -- ---- what one answer does
 
 -- the code's count, refusal and slots are those of what is read
-pub record Same (room : ℕ) (r : Reading) (column₀ : List ℕ) (filled : Filled) (column : List ℕ) : Type 0 where
+pub record Same (r : Reading) (column₀ : List ℕ) (filled : Filled) (column : List ℕ) : Type 0 where
   pub times : filled .count ≡ length (r .times)
   pub outcome : filled .outcome ≡ r .outcome
   pub slots : column ≡ filledWith (r .times) column₀
-  pub fits : length (r .times) ≤ room
+  pub fits : length (r .times) ≤ length column₀
 
 module _ (r : Reading) (column₀ : List ℕ) (whole : r .outcome ≡ Outcome.Whole) (fits : length (r .times) ≤ length column₀) where
   abbrev room : ℕ
@@ -87,7 +87,7 @@ module _ (r : Reading) (column₀ : List ℕ) (whole : r .outcome ≡ Outcome.Wh
 
   -- a time
   timed : (value : ℕ) (piece : Span) (t : Bool) → ltb (length (r .times)) room ≡ t
-      → Same room
+      → Same
       (pick t (reading (r .times ++ (value ∷ [])) (r .outcome)) (reading (r .times) (Outcome.ColumnFull piece)))
       column₀
       (pick t (record { count = length (r .times) + 1; outcome = Outcome.Whole }) (record { count = length (r .times); outcome = Outcome.ColumnFull piece }))
@@ -100,7 +100,7 @@ module _ (r : Reading) (column₀ : List ℕ) (whole : r .outcome ≡ Outcome.Wh
       let l = ltb-false (length (r .times)) room e in
       record { times = refl; outcome = refl; slots = set-out (filledWith (r .times) column₀) (length (r .times)) value (omega (arith, filled-length (r .times) column₀ fits)); fits = fits }
 
-  same-onward : (told : Told) → Same room (onward room r told) column₀ (filledBy room (length (r .times)) told) (slotsBy (filledWith (r .times) column₀) (length (r .times)) told)
+  same-onward : (told : Told) → Same (onward room r told) column₀ (filledBy room (length (r .times)) told) (slotsBy (filledWith (r .times) column₀) (length (r .times)) told)
   same-onward Told.Nothing = record { times = refl; outcome = sym whole; slots = refl; fits = fits }
   same-onward (Told.Time value piece) = timed value piece (ltb (length (r .times)) room) refl
   same-onward (Told.Refused outcome) = record { times = refl; outcome = refl; slots = refl; fits = fits }
@@ -117,7 +117,7 @@ eof-tells-nothing doc names (Answer.Event e) h =
 eof-tells-nothing doc names (Answer.Refused x) h = clash false h refl
 
 -- what is not refused is read whole
-pub whole-outcome : (o : Outcome) → isRefused o ≡ false → o ≡ Outcome.Whole
+whole-outcome : (o : Outcome) → isRefused o ≡ false → o ≡ Outcome.Whole
 whole-outcome Outcome.Whole e = refl
 whole-outcome (Outcome.ReaderRefused x) e = clash true refl e
 whole-outcome (Outcome.BadTime x) e = clash true refl e
@@ -222,11 +222,11 @@ pub record Going (doc stack₀ column₀ : List ℕ) (i : ℕ) (stack column : L
   pub names : stack ≡ run doc stack₀ defaults i .stack
   pub asks : asked doc stack₀ column₀ i ≡ i
   pub unended : ended doc stack₀ column₀ i ≡ false
-  pub same : Same (length column₀) (heard doc stack₀ column₀ i) column₀ (record { count = count; outcome = Outcome.Whole }) column
+  pub same : Same (heard doc stack₀ column₀ i) column₀ (record { count = count; outcome = Outcome.Whole }) column
 
 -- what a loop has when it ends, after `calls` calls that count
 read-to : (doc stack₀ column₀ : List ℕ) (f : Filled) (stack column : List ℕ) (r : Reading) (calls : ℕ) → r ≡ heard doc stack₀ column₀ (length doc + 2)
-    → calls ≡ asked doc stack₀ column₀ (length doc + 2) → stack ≡ run doc stack₀ defaults calls .stack → Same (length column₀) r column₀ f column
+    → calls ≡ asked doc stack₀ column₀ (length doc + 2) → stack ≡ run doc stack₀ defaults calls .stack → Same r column₀ f column
     → ReadTo doc stack₀ column₀ f stack column
 read-to doc stack₀ column₀ f stack column r calls e n t s =
     record {
@@ -320,7 +320,7 @@ module _ (doc stack₀ column₀ stack column : List ℕ) (r : Reader) (i count 
       heard-onward : heard doc stack₀ column₀ (suc i) ≡ onward (length column₀) (heard doc stack₀ column₀ i) t
       heard-onward = heard-next doc stack₀ column₀ i goes ∙ ap (onward (length column₀) (heard doc stack₀ column₀ i)) (sym told-next)
 
-      same-next : Same (length column₀) (heard doc stack₀ column₀ (suc i)) column₀ f column'
+      same-next : Same (heard doc stack₀ column₀ (suc i)) column₀ f column'
       same-next =
           let o = same-onward (heard doc stack₀ column₀ i) column₀ (sym (g .same .outcome)) (g .same .fits) t in
           rw (heard-onward, ef, ec, column-length, g .same .slots, g .same .times) o

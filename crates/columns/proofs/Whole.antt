@@ -2,7 +2,7 @@
 use Prim.Native.Nat.{ℕ, zero, suc, _+_, _-_, _≤_, _<_}
 use mathlib.Core.Path.{_≡_, refl, sym, ap, _∙_, subst}
 use mathlib.Core.List.{List, [], _∷_, _++_, append-nil}
-use mathlib.Core.Bool.{Bool, true, false}
+use mathlib.Core.Bool.{Bool, true, false, not}
 use native.Mathlib.Omega.{arith}
 use native.Mathlib.Decide.{decLt}
 use lib.ListN.{length, getD, take, drop, length-append, List·getD-append}
@@ -11,7 +11,7 @@ use lib.Dec.{eqb, ltb}
 use borrow.Author.Tests.{eqb-true, ne-eqb, ltb-true, ltb-false, lt-ltb, le-ltb}
 use Rattle.ground.specs.Choose.{pick}
 use Rattle.ground.specs.Least.{Gives}
-use Rattle.ground.proofs.Choices.{clash, pick-cases}
+use Rattle.ground.proofs.Choices.{clash, must-fail, not-true, not-false, pick-cases}
 use Rattle.state.specs.declared.place.Span.{Span}
 use Rattle.state.specs.declared.answer.Kind.{Kind}
 use Rattle.state.specs.declared.answer.Answer.{Answer}
@@ -39,7 +39,7 @@ use Rattle.columns.specs.Told.{isKind, within, textToldAs, textTells, ev
 use Rattle.columns.specs.Column.{Reading, reading, onward, readOf, callsOf, answersOf, readIn, filledWith, Columned, toldIn}
 use Rattle.columns.specs.Words.{Lower, Gave, none, one, refuses, Timed, timeIn, timesTold, Stops, EndedBy, StoppedBy}
 use Rattle.columns.proofs.Ordered.{the-index-is-the-first-that-is-lower, kept-order-never-decreases}
-use Rattle.columns.proofs.Turns.{filling, heard, asked, ended, over, heard-next, heard-over, asked-next, ended-next, unended-next, over-refused, over-ended, not-over, over-on, over-stays, eof-heard}
+use Rattle.columns.proofs.Turns.{filling, heard, asked, ended, over, heard-next, heard-over, asked-next, ended-next, unended-next, over-refused, over-ended, not-over, over-on, refused-stays, over-stays, eof-heard}
 
 -- ---- the promise leaves one answer
 
@@ -121,6 +121,22 @@ module _ (doc : List ℕ) (names : List Span) (v : ℕ) (piece : Span) where
       M : Told → Type 0
       M t = t ≡ Told.Time v piece → Timed doc names (Answer.Event e) v piece
 
+-- ---- a test that turns on
+
+record TurnsOn (f : ℕ → Bool) (n m : ℕ) : Type 0 where
+  pub below : m < n
+  pub off : f m ≡ false
+  pub on : f (suc m) ≡ true
+
+-- one that fails at 0 and passes at n turns on between them
+turned-on : (f : ℕ → Bool) (n : ℕ) → f 0 ≡ false → f n ≡ true → (m : ℕ) × TurnsOn f n m
+turned-on f zero off e = clash (f 0) e off
+turned-on f (suc n) off e = by (f n) refl (turned-on f n off)
+  where
+    by : (t : Bool) → f n ≡ t → (f n ≡ true → (m : ℕ) × TurnsOn f n m) → (m : ℕ) × TurnsOn f (suc n) m
+    by true h more = let x = more h in (x .0, record { below = omega (arith, x .1 .below); off = x .1 .off; on = x .1 .on })
+    by false h more = (n, record { below = omega arith; off = h; on = e })
+
 -- ---- what is read
 
 -- a call that does not end the reading adds the time that it tells, if it tells one
@@ -175,11 +191,9 @@ module _ (doc stack column : List ℕ) where
 
   -- where the reading goes on after a call it went on before it
   went-on : (n : ℕ) → isRefused (read (suc n) .outcome) ≡ false → isRefused (read n .outcome) ≡ false
-  went-on n e = by (isRefused (read n .outcome)) refl
-    where
-      by : (t : Bool) → isRefused (read n .outcome) ≡ t → t ≡ false
-      by false f = refl
-      by true f = clash (isRefused (read n .outcome)) f (ap (λ (r : Reading). isRefused (r .outcome)) (sym (heard-over doc stack column n f)) ∙ e)
+  went-on n e =
+      must-fail (isRefused (read n .outcome))
+      (λ f. clash (isRefused (read n .outcome)) f (ap (λ (r : Reading). isRefused (r .outcome)) (sym (heard-over doc stack column n f)) ∙ e))
 
   times-more : (n : ℕ) → timesTold doc (after (suc n) .answers) ≡ timesTold doc (after n .answers) ++ timeIn (toldIn doc (after n))
   unfolding run call timesTold
@@ -208,39 +222,20 @@ module _ (doc stack column : List ℕ) where
       by false e l = rw (heard-next doc stack column n e) (onward-room room (read n) (toldIn doc (after n)) l)
 
   -- where something is refused, one call did it first
-  record First (n m : ℕ) : Type 0 where
-    pub below : m < n
-    pub went : isRefused (read m .outcome) ≡ false
-    pub is : read n ≡ read (suc m)
-    pub over : isRefused (read (suc m) .outcome) ≡ true
-
-  first : (n : ℕ) → isRefused (read n .outcome) ≡ true → (m : ℕ) × First n m
+  first : (n : ℕ) → isRefused (read n .outcome) ≡ true → (m : ℕ) × TurnsOn (λ (k : ℕ). isRefused (read k .outcome)) n m
   unfolding run readOf
-  first zero e = clash false e refl
-  first (suc n) e = by (isRefused (read n .outcome)) refl (first n)
-    where
-      by : (t : Bool) → isRefused (read n .outcome) ≡ t → (isRefused (read n .outcome) ≡ true → (m : ℕ) × First n m) → (m : ℕ) × First (suc n) m
-      by true f more =
-          let x = more f in
-          (x .0, record { below = omega (arith, x .1 .below); went = x .1 .went; is = heard-over doc stack column n f ∙ x .1 .is; over = x .1 .over })
-      by false f more = (n, record { below = omega arith; went = f; is = refl; over = e })
+  first n = turned-on (λ (k : ℕ). isRefused (read k .outcome)) n refl
 
   -- where an answer is Eof, one was it first
-  record FirstEof (m k : ℕ) : Type 0 where
-    pub below : k < m
-    pub eof : isEof (said doc (after k)) ≡ true
-    pub unended : ended doc stack column k ≡ false
-
-  first-eof : (m : ℕ) → ended doc stack column m ≡ true → (k : ℕ) × FirstEof m k
+  first-eof : (n : ℕ) → ended doc stack column n ≡ true → (m : ℕ) × TurnsOn (ended doc stack column) n m
   unfolding run oneIs
-  first-eof zero e = clash false e refl
-  first-eof (suc m) e = by (ended doc stack column m) refl (isEof (said doc (after m))) refl (first-eof m)
-    where
-      by : (t : Bool) → ended doc stack column m ≡ t → (u : Bool) → isEof (said doc (after m)) ≡ u
-          → (ended doc stack column m ≡ true → (k : ℕ) × FirstEof m k) → (k : ℕ) × FirstEof (suc m) k
-      by true f u g more = let x = more f in (x .0, record { below = omega (arith, x .1 .below); eof = x .1 .eof; unended = x .1 .unended })
-      by false f true g more = (m, record { below = omega arith; eof = g; unended = f })
-      by false f false g more = clash (ended doc stack column (suc m)) e (unended-next doc stack column m f g)
+  first-eof n = turned-on (ended doc stack column) n refl
+
+  turned-by-eof : (m : ℕ) → ended doc stack column m ≡ false → ended doc stack column (suc m) ≡ true → isEof (said doc (after m)) ≡ true
+  turned-by-eof m off on =
+      not-false (isEof (said doc (after m)))
+      (must-fail (not (isEof (said doc (after m))))
+      (λ e. clash (ended doc stack column (suc m)) on (unended-next doc stack column m off (not-true (isEof (said doc (after m))) e))))
 
   -- a call before one that goes on goes on
   goes-before : (k m : ℕ) → k ≤ m → isRefused (read m .outcome) ≡ false → isRefused (read k .outcome) ≡ false
@@ -255,11 +250,9 @@ module _ (doc stack column : List ℕ) where
   asked-all : (m : ℕ) → over doc stack column m ≡ false → asked doc stack column m ≡ m
   unfolding run callsOf
   asked-all zero e = refl
-  asked-all (suc m) e = by (over doc stack column m) refl (asked-all m)
-    where
-      by : (t : Bool) → over doc stack column m ≡ t → (over doc stack column m ≡ false → asked doc stack column m ≡ m) → asked doc stack column (suc m) ≡ suc m
-      by true f more = clash (over doc stack column (suc m)) (over-on doc stack column m f) e
-      by false f more = asked-next doc stack column m f ∙ ap suc (more f)
+  asked-all (suc m) e =
+      let f = must-fail (over doc stack column m) (λ g. clash (over doc stack column (suc m)) (over-on doc stack column m g) e) in
+      asked-next doc stack column m f ∙ ap suc (asked-all m f)
 
   -- so the call with which it is over is the last
   asked-last : (m n : ℕ) → m < n → over doc stack column m ≡ false → over doc stack column (suc m) ≡ true → asked doc stack column n ≡ suc m
@@ -282,17 +275,15 @@ module _ (doc stack column : List ℕ) where
   module _ (short : length doc ≤ longest) where
     -- no answer before one that is refused is Eof
     unended-before : (m : ℕ) → isRefused (read m .outcome) ≡ false → isRefused (read (suc m) .outcome) ≡ true → ended doc stack column m ≡ false
-    unended-before m went over-now = by (ended doc stack column m) refl
-      where
-        by : (t : Bool) → ended doc stack column m ≡ t → t ≡ false
-        by false e = refl
-        by true e =
-            let x = first-eof m e in
-            let k = x .0 in
-            let goes = goes-before k m (omega (arith, x .1 .below)) went in
-            let j : m - k + suc k ≡ suc m = omega (arith, x .1 .below) in
-            let h : read (suc m) ≡ read k = ap read (sym j) ∙ eof-heard doc stack column short k goes (x .1 .eof) (m - k) in
-            clash (isRefused (read (suc m) .outcome)) over-now (ap (λ (r : Reading). isRefused (r .outcome)) h ∙ goes)
+    unended-before m went over-now =
+        must-fail (ended doc stack column m)
+        (λ e.
+        let x = first-eof m e in
+        let k = x .0 in
+        let goes = goes-before k m (omega (arith, x .1 .below)) went in
+        let j : m - k + suc k ≡ suc m = omega (arith, x .1 .below) in
+        let h : read (suc m) ≡ read k = ap read (sym j) ∙ eof-heard doc stack column short k goes (turned-by-eof k (x .1 .off) (x .1 .on)) (m - k) in
+        clash (isRefused (read (suc m) .outcome)) over-now (ap (λ (r : Reading). isRefused (r .outcome)) h ∙ goes))
 
     -- the reading is stopped by the first call that does
     stopped : isRefused (read (length doc + 2) .outcome) ≡ true → (m : ℕ) × StoppedBy doc stack room (read (length doc + 2)) m
@@ -300,20 +291,22 @@ module _ (doc stack column : List ℕ) where
         let x = first (length doc + 2) e in
         let m = x .0 in
         let f = x .1 in
-        let h = heard-next doc stack column m (f .went) in
-        let s = onward-stops room (read m) (toldIn doc (after m)) (f .went) (ap (λ (r : Reading). isRefused (r .outcome)) (sym h) ∙ f .over) (in-room m) in
-        let t : read (length doc + 2) .times ≡ read m .times = ap (λ (r : Reading). r .times) (f .is ∙ h) ∙ s .0 in (
+        let k : length doc + 2 - suc m + suc m ≡ length doc + 2 = omega (arith, f .below) in
+        let is : read (length doc + 2) ≡ read (suc m) = ap read (sym k) ∙ refused-stays doc stack column (suc m) (f .on) (length doc + 2 - suc m) in
+        let h = heard-next doc stack column m (f .off) in
+        let s = onward-stops room (read m) (toldIn doc (after m)) (f .off) (ap (λ (r : Reading). isRefused (r .outcome)) (sym h) ∙ f .on) (in-room m) in
+        let t : read (length doc + 2) .times ≡ read m .times = ap (λ (r : Reading). r .times) (is ∙ h) ∙ s .0 in (
           m,
           record {
-            times = t ∙ all-told m (f .went);
+            times = t ∙ all-told m (f .off);
             stops =
-                subst (λ (r : Reading). Stops room (r .times) (toldIn doc (after m)) (r .outcome)) (sym (f .is ∙ h))
+                subst (λ (r : Reading). Stops room (r .times) (toldIn doc (after m)) (r .outcome)) (sym (is ∙ h))
                 (subst (λ (ts : List ℕ). Stops room ts (toldIn doc (after m)) (onward room (read m) (toldIn doc (after m)) .outcome)) (sym (s .0)) (s .1));
-            before = λ k outcome l. no-stop k outcome (goes-before (suc k) m (omega arith) (f .went));
+            before = λ k outcome l. no-stop k outcome (goes-before (suc k) m (omega arith) (f .off));
             calls =
                 asked-last m (length doc + 2) (f .below)
-                (not-over doc stack column m (f .went) (unended-before m (f .went) (f .over)))
-                (over-refused doc stack column (suc m) (f .over));
+                (not-over doc stack column m (f .off) (unended-before m (f .off) (f .on)))
+                (over-refused doc stack column (suc m) (f .on));
           },
         )
 
@@ -328,13 +321,13 @@ module _ (doc stack column : List ℕ) where
         let n = x .0 in (
           n,
           record {
-            eof = x .1 .eof;
+            eof = turned-by-eof n (x .1 .off) (x .1 .on);
             in-time = x .1 .below;
             unstopped = λ k outcome l. no-stop k outcome (goes-before (suc k) (length doc + 2) (omega arith) e);
             calls =
                 asked-last n (length doc + 2) (x .1 .below)
-                (not-over doc stack column n (goes-before n (length doc + 2) (omega (arith, x .1 .below)) e) (x .1 .unended))
-                (over-ended doc stack column (suc n) (ended-next doc stack column n (x .1 .eof)));
+                (not-over doc stack column n (goes-before n (length doc + 2) (omega (arith, x .1 .below)) e) (x .1 .off))
+                (over-ended doc stack column (suc n) (x .1 .on));
           },
         )
 

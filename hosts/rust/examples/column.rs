@@ -3,21 +3,11 @@
 //!
 //! With `--night` alone it sets the column of a night service, `night.xml` beside it, in which one time is wrong, and says which.
 
-use sporebasket::{read_column, Column};
-use std::io::{self, Read, Write};
-use std::{env, fs, process};
+mod input;
 
-/// The document named on the command line, or standard input.
-fn document() -> io::Result<Vec<u8>> {
-    match env::args_os().nth(1) {
-        Some(path) => fs::read(path),
-        None => {
-            let mut bytes = Vec::new();
-            io::stdin().read_to_end(&mut bytes)?;
-            Ok(bytes)
-        }
-    }
-}
+use sporebasket::{read_column, Column};
+use std::io::{self, Write};
+use std::{env, process};
 
 fn list(document: &[u8], out: &mut impl Write) -> io::Result<()> {
     let column = read_column(document);
@@ -62,10 +52,11 @@ fn night(out: &mut impl Write) -> io::Result<()> {
 
 fn main() {
     let mut out = io::BufWriter::new(io::stdout().lock());
-    let done = if env::args_os().nth(1).is_some_and(|word| word == "--night") {
+    let word = env::args_os().nth(1);
+    let done = if word.as_deref().is_some_and(|word| word == "--night") {
         night(&mut out)
     } else {
-        document().and_then(|bytes| list(&bytes, &mut out))
+        input::document(word).and_then(|bytes| list(&bytes, &mut out))
     };
     if let Err(error) = done.and_then(|()| out.flush()) {
         eprintln!("column: {error}");

@@ -1,23 +1,17 @@
 //! Lists the events of a document, from a file or standard input: a line to each answer, up to the end of file. With `--check-open-names`
 //! before the file's name a document that ends while names are open is refused (18) before its end of file.
 
+mod input;
+
 use sporebasket::{Error, Event, Reader};
-use std::io::{self, Read, Write};
-use std::{env, fs, process};
+use std::io::{self, Write};
+use std::{env, process};
 
 /// What the command line asks for: whether open names are checked, and the document that is named, or standard input.
 fn asked() -> io::Result<(bool, Vec<u8>)> {
     let mut words = env::args_os().skip(1).peekable();
     let check = words.next_if(|word| word == "--check-open-names").is_some();
-    let document = match words.next() {
-        Some(path) => fs::read(path)?,
-        None => {
-            let mut bytes = Vec::new();
-            io::stdin().read_to_end(&mut bytes)?;
-            bytes
-        }
-    };
-    Ok((check, document))
+    Ok((check, input::document(words.next())?))
 }
 
 fn word(event: &Event) -> &'static str {

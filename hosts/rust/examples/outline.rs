@@ -1,20 +1,10 @@
 //! Prints the outline of a document, from a file or standard input: names and text, indented by depth, and each refusal with its line and column.
 
-use sporebasket::{Error, Event, Reader};
-use std::io::{self, Read, Write};
-use std::{env, fs, process};
+mod input;
 
-/// The document named on the command line, or standard input.
-fn document() -> io::Result<Vec<u8>> {
-    match env::args_os().nth(1) {
-        Some(path) => fs::read(path),
-        None => {
-            let mut bytes = Vec::new();
-            io::stdin().read_to_end(&mut bytes)?;
-            Ok(bytes)
-        }
-    }
-}
+use sporebasket::{Error, Event, Reader};
+use std::io::{self, Write};
+use std::{env, process};
 
 /// The line and the column of a place, both from 1. A column is a character.
 fn line_and_column(document: &[u8], place: usize) -> (usize, usize) {
@@ -69,7 +59,7 @@ fn outline(document: &[u8], out: &mut impl Write) -> io::Result<()> {
 
 fn main() {
     let mut out = io::BufWriter::new(io::stdout().lock());
-    let done = document()
+    let done = input::document(env::args_os().nth(1))
         .and_then(|bytes| outline(&bytes, &mut out))
         .and_then(|()| out.flush());
     if let Err(error) = done {
