@@ -5,6 +5,7 @@ use mathlib.Core.Bool.{true}
 use mathlib.Core.List.{List, [], _∷_}
 use native.Mathlib.Omega.{arith}
 use lib.ListN.{length, set, length-set}
+use lib.Seq.{sets, sets-eq}
 use lib.Dec.{ltb}
 use borrow.Author.Needs.{needs}
 use borrow.Author.Tests.{ltb-true}
@@ -15,7 +16,7 @@ use Rattle.columns.specs.declared.order.Order.{Order}
 use Rattle.columns.specs.Order.{lowerNumber}
 use Rattle.columns.specs.Outcome.{valuesOf}
 use Rattle.columns.specs.Column.{Reading, readIn, filledWith, Columned}
-use Rattle.capi_column.specs.Columns.{badNumber, summaryNumbers, columnSlots, readNumbers, ColumnRead}
+use Rattle.capi_column.specs.Columns.{badNumber, summaryNumbers, columnSlots, ColumnRead}
 
 -- a slot of the answer, and one after others were written
 pub slot-in : (xs : List ℕ) (i : ℕ) → columnSlots ≤ length xs → ltb i columnSlots ≡ true → i < length xs
@@ -28,42 +29,13 @@ pub slot-still-behind-four : (xs : List ℕ) (k v l w m x n y i : ℕ) → i < l
 slot-still-behind-four xs k v l w m x n y i h =
     omega (arith, length-set xs k v, length-set (set xs k v) l w, length-set (set (set xs k v) l w) m x, length-set (set (set (set xs k v) l w) m x) n y)
 
--- ten slots written one after the other
-ten : (xs : List ℕ) (a b c d e f g h i j : ℕ) → 10 ≤ length xs
-    → set (set (set (set (set (set (set (set (set (set xs 0 a) 1 b) 2 c) 3 d) 4 e) 5 f) 6 g) 7 h) 8 i) 9 j
-    ≡ filledWith (a ∷ b ∷ c ∷ d ∷ e ∷ f ∷ g ∷ h ∷ i ∷ j ∷ []) xs
-ten [] a b c d e f g h i j l = absurd (omega arith)
-ten (_ ∷ []) a b c d e f g h i j l = absurd (omega arith)
-ten (_ ∷ _ ∷ []) a b c d e f g h i j l = absurd (omega arith)
-ten (_ ∷ _ ∷ _ ∷ []) a b c d e f g h i j l = absurd (omega arith)
-ten (_ ∷ _ ∷ _ ∷ _ ∷ []) a b c d e f g h i j l = absurd (omega arith)
-ten (_ ∷ _ ∷ _ ∷ _ ∷ _ ∷ []) a b c d e f g h i j l = absurd (omega arith)
-ten (_ ∷ _ ∷ _ ∷ _ ∷ _ ∷ _ ∷ []) a b c d e f g h i j l = absurd (omega arith)
-ten (_ ∷ _ ∷ _ ∷ _ ∷ _ ∷ _ ∷ _ ∷ []) a b c d e f g h i j l = absurd (omega arith)
-ten (_ ∷ _ ∷ _ ∷ _ ∷ _ ∷ _ ∷ _ ∷ _ ∷ []) a b c d e f g h i j l = absurd (omega arith)
-ten (_ ∷ _ ∷ _ ∷ _ ∷ _ ∷ _ ∷ _ ∷ _ ∷ _ ∷ []) a b c d e f g h i j l = absurd (omega arith)
-ten (_ ∷ _ ∷ _ ∷ _ ∷ _ ∷ _ ∷ _ ∷ _ ∷ _ ∷ _ ∷ xs) a b c d e f g h i j l = refl
-
--- the numbers written
+-- the numbers written one after the other
 pub summary-put : (xs : List ℕ) (count low : ℕ) (order : Order) (v : Values) → low ≡ lowerNumber order → columnSlots ≤ length xs
-    → set
-    (set
-    (set
-    (set
-    (set
-    (set (set (set (set (set xs 0 count) 1 low) 2 (v .number)) 3 (v .place)) 4 (v .piece .from)) 5
-    (v .piece .to))
-    6
-    (v .expected .from))
-    7
-    (v .expected .to))
-    8
-    (v .found .from))
-    9
-    (v .found .to)
+    → sets xs 0
+    (count ∷ low ∷ v .number ∷ v .place ∷ v .piece .from ∷ v .piece .to ∷ v .expected .from ∷ v .expected .to ∷ v .found .from ∷ v .found .to ∷ [])
     ≡ filledWith (summaryNumbers count order v) xs
 unfolding summaryNumbers
-summary-put xs count low order v e l = rw (← e) (ten xs count low _ _ _ _ _ _ _ _ l)
+summary-put xs count low order v e l = rw (← e) (sets-eq (count ∷ low ∷ v .number ∷ v .place ∷ v .piece .from ∷ v .piece .to ∷ v .expected .from ∷ v .expected .to ∷ v .found .from ∷ v .found .to ∷ []) xs 0 l)
 
 module _ (doc stack column answer : List ℕ) where
   abbrev read : Reading
