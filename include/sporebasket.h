@@ -1,4 +1,4 @@
-/* Sporebasket: a verified reader of XML events, and of columns of times. Link libcapi.a, which `tools/host-staticlib capi` makes.
+/* Sporebasket: a verified reader of XML events, and of columns of times. Link libsporebasket.a, which `tools/host-staticlib capi` makes.
  *
  * The host lends all memory: the document, a stack for the open names, the state of a reader, a column and room for an answer. Nothing is kept between
  * calls but what stands there, so each thread may have a reader of its own, over one document too. Every function but
@@ -150,12 +150,22 @@ enum {
 size_t sporebasket_default_settings(void);
 
 /* Makes a reader over a document, in the first SPOREBASKET_STATE_SLOTS slots of the state. Bits of the settings that stand for none do not
- * count. 16: the document is too long; 17: the state has too few slots. Then nothing is written. */
+ * count. 17: the state has fewer slots than that; else 16: the document has more than SPOREBASKET_LONGEST bytes. Then nothing is written. */
 size_t sporebasket_new(const uint8_t *document, size_t length, size_t settings, size_t *state, size_t state_slots);
 
 /* Reads on, and writes the answer, the state after it, and, for a Start, its name on the stack. 0 is an event. Lend each call the same document and the
- * stack and state as the call before left them. 17: the state is none that a reader over this document and stack comes to, or it has
- * too few slots, and it is left alone; or the answer has too few slots, and nothing is written. Slots past those named above are left alone.
+ * stack and state as the call before left them. Slots past those named above are left alone.
+ * 17 comes before all else, and exactly where one of these is so:
+ * - The answer has fewer than SPOREBASKET_ANSWER_SLOTS slots. Then nothing is written, not even the answer.
+ * - The state has fewer than SPOREBASKET_STATE_SLOTS slots, its PHASE is none of those above, or its SETTINGS are more than all the bits together (511).
+ * - LENGTH is not the document's or more than SPOREBASKET_LONGEST, or POSITION is more than LENGTH.
+ * - DEPTH is more than SPOREBASKET_MOST_NAMES, or than half the slots of the stack, rounded down.
+ * - DEPTH is not 0, and of the latest open name, slots 2 * DEPTH - 2 and 2 * DEPTH - 1 of the stack, the start is more than the end, or the end more than POSITION.
+ * - The PHASE does not fit: INIT where POSITION or DEPTH is not 0, INSIDE_MARKUP where no `<` is at POSITION, INSIDE_REF where no `&` is there, INSIDE_EMPTY where
+ *   DEPTH is 0.
+ * It leaves the stack and the state alone, so it comes again for ever: a loop has to end there. From sporebasket_new on, with everything lent as said, it never
+ * comes, and end of file comes by call number length + 2, whatever is refused before. A state that passes need not be one that calls lead to: of the names the
+ * latest alone is looked at, of the document the byte at POSITION. It is read on from as it is.
  * A call opens one name at most. So a stack may be short at first, and where it is full a longer one be lent before the next call, with what the short
  * one held in its first slots: every answer is then as if the longest had been lent from the start. */
 size_t sporebasket_read_event(const uint8_t *document, size_t length, size_t *stack, size_t stack_slots, size_t *state,

@@ -2,7 +2,7 @@
 
 use crate::ours::{OPEN_NAMES, THEIR_ALL};
 use quick_xml::reader::Config as Theirs;
-use sporebasket::Config as Ours;
+use sporebasket::reader::Config as Ours;
 
 macro_rules! flags {
     ($config:expr) => {

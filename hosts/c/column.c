@@ -2,7 +2,7 @@
  * document is refused; and how many times there are, `in order` if they never decrease, else `lower at` and the first index, from 0, whose time is lower than
  * the one before it.
  *
- *   cc -I include hosts/c/column.c target/host/libcapi.a -o column
+ *   cc -I include hosts/c/column.c target/host/libsporebasket.a -o column
  */
 #include "sporebasket.h"
 #include "whole.h"

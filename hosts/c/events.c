@@ -1,7 +1,7 @@
 /* Lists the events of a document, from a file or standard input, by the C interface: a line to each answer, up to the end of file. With
  * --check-open-names before the file's name a document that ends while names are open is refused (18) before its end of file.
  *
- *   cc -I include hosts/c/events.c target/host/libcapi.a -o events
+ *   cc -I include hosts/c/events.c target/host/libsporebasket.a -o events
  */
 #include "sporebasket.h"
 #include "whole.h"

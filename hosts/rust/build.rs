@@ -1,4 +1,4 @@
-//! Links the reader's archive `libcapi.a`, from SPOREBASKET_LIB_DIR or else from `target/host` of the repository.
+//! Links the reader's archive `libsporebasket.a`, from SPOREBASKET_LIB_DIR or else from `target/host` of the repository.
 
 use std::path::{self, Path, PathBuf};
 use std::{env, process};
@@ -7,13 +7,13 @@ fn main() {
     println!("cargo:rerun-if-changed=build.rs");
     println!("cargo:rerun-if-env-changed=SPOREBASKET_LIB_DIR");
     let folder = folder();
-    let archive = folder.join("libcapi.a");
+    let archive = folder.join("libsporebasket.a");
     if !archive.is_file() {
         missing(&archive);
     }
     println!("cargo:rerun-if-changed={}", archive.display());
     println!("cargo:rustc-link-search=native={}", folder.display());
-    println!("cargo:rustc-link-lib=static=capi");
+    println!("cargo:rustc-link-lib=static=sporebasket");
 }
 
 /// The folder that should have the archive, by its whole path.

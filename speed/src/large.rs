@@ -7,6 +7,8 @@ use crate::inputs;
 use crate::memory::heap;
 use crate::runners::{Runner, Settings};
 use crate::worst::nesting;
+use sporebasket::events::Event;
+use sporebasket::ext::ReaderExt;
 use sporebasket::{lent, Reader, LONGEST, MOST_NAMES};
 
 type Runners = [Box<dyn Runner>];
@@ -85,7 +87,7 @@ fn taken(row: &Row, runners: &mut Runners) -> Vec<String> {
 fn most_open(document: &[u8]) -> usize {
     let mut reader = Reader::from_reader(document);
     let mut most = 0;
-    while !matches!(reader.read_event(), Ok(sporebasket::Event::Eof)) {
+    while !matches!(reader.read_event(), Ok(Event::Eof)) {
         most = most.max(reader.depth());
     }
     most

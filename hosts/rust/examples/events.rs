@@ -3,7 +3,10 @@
 
 mod input;
 
-use sporebasket::{Error, Event, Reader};
+use sporebasket::errors::{Error, Refused};
+use sporebasket::events::Event;
+use sporebasket::ext::{ErrorExt, EventExt, ReaderExt};
+use sporebasket::Reader;
 use std::io::{self, Write};
 use std::{env, process};
 
@@ -25,7 +28,19 @@ fn word(event: &Event) -> &'static str {
         Event::CData(_) => "cdata",
         Event::Decl(_) => "decl",
         Event::PI(_) => "pi",
+        Event::DocType(_) => "doctype",
         Event::Eof => "eof",
+    }
+}
+
+/// How many bytes of its content are an event's name.
+fn name_len(event: &Event) -> usize {
+    match event {
+        Event::Start(tag) | Event::Empty(tag) => tag.name().as_ref().len(),
+        Event::End(tag) => tag.name().as_ref().len(),
+        Event::Decl(_) => "xml".len(),
+        Event::PI(instruction) => instruction.target().len(),
+        _ => 0,
     }
 }
 
@@ -37,11 +52,8 @@ fn list(document: &[u8], check: bool, out: &mut impl Write) -> io::Result<()> {
         match reader.read_event() {
             Ok(event) => {
                 let piece = reader.piece();
-                let (content, name) = match event.part() {
-                    Some(part) => (part.content(), part.name_len()),
-                    None => (piece.start..piece.start, 0),
-                };
-                let said = word(&event);
+                let content = event.place().map_or(piece.start..piece.start, |place| place.content);
+                let (said, name) = (word(&event), name_len(&event));
                 writeln!(
                     out,
                     "{said} {} {} {} {} {name}",
@@ -52,9 +64,10 @@ fn list(document: &[u8], check: bool, out: &mut impl Write) -> io::Result<()> {
                 }
             }
             Err(error) => {
-                writeln!(out, "refused {} {}", error.number(), reader.error_position())?;
+                let number = error.number().unwrap_or_default();
+                writeln!(out, "refused {number} {}", reader.error_position())?;
                 // here no end of file comes
-                if error == Error::SliceTooLong {
+                if matches!(error, Error::Refused(Refused::SliceTooLong)) {
                     return Ok(());
                 }
             }

@@ -2,7 +2,10 @@
 
 mod input;
 
-use sporebasket::{Error, Event, Reader};
+use sporebasket::errors::{Error, Refused};
+use sporebasket::events::Event;
+use sporebasket::ext::ReaderExt;
+use sporebasket::Reader;
 use std::io::{self, Write};
 use std::{env, process};
 
@@ -17,12 +20,11 @@ fn line_and_column(document: &[u8], place: usize) -> (usize, usize) {
 
 /// What stands on the line of an event, if it has one.
 fn shown(event: &Event) -> Option<String> {
-    let text = String::from_utf8_lossy(event.as_bytes());
     match event {
-        Event::Start(tag) | Event::Empty(tag) => Some(format!("<{}>", String::from_utf8_lossy(tag.name()))),
-        Event::Text(_) if text.is_empty() => None,
-        Event::Text(_) | Event::CData(_) => Some(format!("{text:?}")),
-        Event::GeneralRef(_) => Some(format!("&{text};")),
+        Event::Start(tag) | Event::Empty(tag) => Some(format!("<{}>", tag.name().as_ref())),
+        Event::Text(text) if text.is_empty() => None,
+        Event::Text(_) | Event::CData(_) => Some(format!("{:?}", &**event)),
+        Event::GeneralRef(reference) => Some(format!("&{};", &**reference)),
         _ => None,
     }
 }
@@ -45,14 +47,14 @@ fn outline(document: &[u8], out: &mut impl Write) -> io::Result<()> {
                 let (line, column) = line_and_column(document, reader.error_position() as usize);
                 writeln!(out, "{:indent$}! {line}:{column}: {error}", "")?;
                 // here no end of file comes
-                if error == Error::SliceTooLong {
+                if matches!(error, Error::Refused(Refused::SliceTooLong)) {
                     break;
                 }
             }
         }
     }
     for name in reader.open_names().rev() {
-        writeln!(out, "! <{}> is still open", String::from_utf8_lossy(name))?;
+        writeln!(out, "! <{}> is still open", name.as_ref())?;
     }
     Ok(())
 }

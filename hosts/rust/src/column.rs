@@ -25,9 +25,10 @@
 //! - The document is read with the default settings of a [`Reader`](crate::Reader), and the first refusal ends the reading, be it one after which a
 //!   [`Reader`](crate::Reader) could go on.
 //! - Names that are open at the end are no refusal: of a document that was cut off the times before the cut are given.
-//!   [`check_open_names`](crate::Config::check_open_names) of a [`Reader`](crate::Reader) tells such a document.
+//!   [`check_open_names`](crate::reader::Config::check_open_names) of a [`Reader`](crate::Reader) tells such a document.
 
 use crate::errors::{owned, Error, Told};
+use crate::ext::ErrorExt;
 use crate::lent;
 use crate::raw::column::{COUNT, EXPECTED, FOUND, LOWER, NUMBER, PIECE, PLACE};
 use crate::raw::{COLUMN_SLOTS, MOST_NAMES, NAME_SLOTS};
@@ -101,7 +102,7 @@ pub fn read_column(document: &[u8]) -> Column {
 /// let column = read_column(b"<t>23:50</t><t>23:50</t><t>24:10</t>");
 /// assert_eq!((column.times.len(), column.lower, column.refusal), (3, None, None));
 /// ```
-#[derive(Clone, Debug, PartialEq, Eq, Hash)]
+#[derive(Clone, Debug, PartialEq, Eq)]
 #[non_exhaustive]
 pub struct Column {
     /// The times, in the order of the document; where it is refused, those before that.
@@ -116,7 +117,8 @@ pub struct Column {
 ///
 /// ```
 /// use sporebasket::column::Refusal;
-/// use sporebasket::{read_column, Error, SyntaxError};
+/// use sporebasket::errors::{Error, SyntaxError};
+/// use sporebasket::read_column;
 ///
 /// let refusal = read_column(b"<t>6:15 h\n</t>").refusal;
 /// assert_eq!(refusal, Some(Refusal::BadTime { text: "6:15 h\n".into(), position: 3 }));
@@ -125,7 +127,7 @@ pub struct Column {
 /// let error = Error::Syntax(SyntaxError::UnclosedTag);
 /// assert_eq!(refusal, Some(Refusal::Reader { error, position: 8 }));
 /// ```
-#[derive(Clone, Debug, PartialEq, Eq, Hash)]
+#[derive(Clone, Debug, PartialEq, Eq)]
 #[non_exhaustive]
 pub enum Refusal {
     /// A refusal of the reader, 1 to 8 and 10 to 16.
@@ -177,7 +179,7 @@ impl Refusal {
     /// ```
     pub fn number(&self) -> u8 {
         match self {
-            Refusal::Reader { error, .. } => error.number(),
+            Refusal::Reader { error, .. } => error.number().unwrap_or(BAD_STATE),
             Refusal::BadTime { .. } => BAD_TIME as u8,
         }
     }
@@ -204,12 +206,12 @@ impl Refusal {
 /// let error = column(b"<t>06:15</t><t>06:45</r>").unwrap_err();
 /// assert_eq!((error.number(), error.position()), (10, 20));
 /// assert_eq!(error.times.len(), 2);
-/// assert_eq!(error.to_string(), "`</r>` stands where `</t>` is due, at byte 20");
+/// assert_eq!(error.to_string(), "ill-formed document: expected `</t>`, but `</r>` was found, at byte 20");
 /// // the reader's own
 /// let source = error.source().and_then(|source| source.downcast_ref::<Error>());
 /// assert!(matches!(source, Some(Error::IllFormed(_))));
 /// ```
-#[derive(Clone, Debug, PartialEq, Eq, Hash)]
+#[derive(Clone, Debug, PartialEq, Eq)]
 #[non_exhaustive]
 pub struct ColumnError {
     /// The times before the refusal, in the order of the document.
@@ -283,6 +285,7 @@ const SHOWN: usize = 32;
 const NAME_STACK_FULL: usize = 15;
 const COLUMN_FULL: usize = 31;
 const BAD_TIME: usize = 30;
+const BAD_STATE: u8 = 17;
 
 /// How many names and times there is room for at first.
 const FIRST_NAMES: usize = 32;

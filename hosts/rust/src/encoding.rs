@@ -2,7 +2,6 @@
 
 use std::error;
 use std::fmt;
-use std::hash::{Hash, Hasher};
 use std::str::Utf8Error;
 
 /// How a piece is not UTF-8 (refusal 13).
@@ -12,6 +11,7 @@ use std::str::Utf8Error;
 ///
 /// ```
 /// use sporebasket::encoding::EncodingError;
+/// use sporebasket::ext::ReaderExt;
 /// use sporebasket::{Error, Reader};
 ///
 /// let document = b"<a>ab\xFF";
@@ -29,15 +29,8 @@ use std::str::Utf8Error;
 #[non_exhaustive]
 pub enum EncodingError {
     /// What Rust's own check says of the piece. Its `valid_up_to` counts from the first byte of the piece, and so
-    /// [`Reader::piece`](crate::Reader::piece)`().start` and it make the place of the refusal.
+    /// [`ReaderExt::piece`](crate::ext::ReaderExt::piece)`().start` and it make the place of the refusal.
     Utf8(Utf8Error),
-}
-
-impl Hash for EncodingError {
-    fn hash<H: Hasher>(&self, state: &mut H) {
-        let EncodingError::Utf8(error) = self;
-        (error.valid_up_to(), error.error_len()).hash(state);
-    }
 }
 
 impl From<Utf8Error> for EncodingError {
@@ -48,8 +41,14 @@ impl From<Utf8Error> for EncodingError {
 
 impl fmt::Display for EncodingError {
     fn fmt(&self, f: &mut fmt::Formatter<'_>) -> fmt::Result {
-        f.write_str("bytes that are not UTF-8")
+        let EncodingError::Utf8(error) = self;
+        write!(f, "cannot decode input using UTF-8: {error}")
     }
 }
 
-impl error::Error for EncodingError {}
+impl error::Error for EncodingError {
+    fn source(&self) -> Option<&(dyn error::Error + 'static)> {
+        let EncodingError::Utf8(error) = self;
+        Some(error)
+    }
+}

@@ -1,19 +1,29 @@
-//! What a refusal says.
+//! What a refusal says: quick-xml's errors with their texts, and the refusals that are ours.
 
 use crate::encoding::EncodingError;
+use crate::escape::EscapeError;
+use crate::events::attributes::AttrError;
+use crate::name::{NamespaceError, QName};
 use crate::raw::{LONGEST, MOST_NAMES};
 use std::error;
 use std::fmt;
+use std::io;
 use std::str::Utf8Error;
+use std::sync::Arc;
 
-/// Why a call gave no event. Each refusal has a number of its own, 1 to 18.
+/// A result whose error is [`Error`].
+pub type Result<T> = std::result::Result<T, Error>;
+
+/// Why there is no event.
 ///
 /// Where it is told stands with the reader: [`Reader::error_position`](crate::Reader::error_position) is the place to show a user, and
-/// [`Reader::piece`](crate::Reader::piece) what was refused. Reading can go on after it. After a refusal that ends the run, and after 18, the next
-/// call gives [`Eof`](crate::Event::Eof); only a reader over a document that is too long gives the same refusal for ever.
+/// [`ReaderExt::piece`](crate::ext::ReaderExt::piece) what was refused. A refusal of the reader has a number, 1 to 18, which
+/// [`ErrorExt::number`](crate::ext::ErrorExt::number) gives. Reading can go on after it. After one that ends the run, and after 18, the next
+/// call gives [`Eof`](crate::events::Event::Eof); only a reader over a document that is too long gives the same refusal for ever.
 ///
 /// ```
-/// use sporebasket::{Error, Event, IllFormedError, Reader};
+/// use sporebasket::errors::{Error, IllFormedError};
+/// use sporebasket::Reader;
 ///
 /// let mut reader = Reader::from_str("<a></b>c");
 /// reader.read_event()?;
@@ -24,79 +34,135 @@ use std::str::Utf8Error;
 ///     other => panic!("{other:?}"),
 /// }
 /// assert_eq!(reader.error_position(), 3);
-/// assert_eq!(reader.read_event()?.as_bytes(), b"c");
+/// assert_eq!(&*reader.read_event()?, "c");
 /// # Ok::<(), Error>(())
+/// ```
+#[derive(Clone, Debug)]
+pub enum Error {
+    /// Reading or writing failed outside of this package, which does neither: made by `?` from an [`io::Error`].
+    Io(Arc<io::Error>),
+    /// The document leaves the grammar: 1 to 8. It ends the run.
+    Syntax(SyntaxError),
+    /// The document is not well formed: 9 to 12. Reading goes on behind the piece.
+    IllFormed(IllFormedError),
+    /// An attribute is not well formed.
+    InvalidAttr(AttrError),
+    /// The piece is not UTF-8: 13. Its place is the first byte of the first sequence that is not. It ends the run.
+    Encoding(EncodingError),
+    /// A reference cannot be resolved.
+    Escape(EscapeError),
+    /// A name's namespace is wrong.
+    Namespace(NamespaceError),
+    /// A refusal that quick-xml has not: 14 to 18.
+    Refused(Refused),
+}
+
+/// The refusals that quick-xml has not.
+///
+/// ```
+/// use sporebasket::errors::{Error, Refused};
+/// use sporebasket::Reader;
+///
+/// let error = Reader::from_str("<!DOCTYPE t>").read_event().unwrap_err();
+/// assert!(matches!(error, Error::Refused(Refused::DocType)));
 /// ```
 #[derive(Clone, Debug, PartialEq, Eq, Hash)]
 #[non_exhaustive]
-pub enum Error {
-    /// The document leaves the grammar: 1 to 8. It ends the run.
-    Syntax(SyntaxError),
-    /// The document is not well formed: 9 to 12, and 18. Reading goes on behind the piece, with [`Eof`](crate::Event::Eof) behind that of 18.
-    IllFormed(IllFormedError),
-    /// The piece is not UTF-8: 13. Its place is the first byte of the first sequence that is not. It ends the run.
-    Encoding(EncodingError),
-    /// Markup that opens `<!D` or `<!d`: 14. This reader takes no document type. It ends the run.
+pub enum Refused {
+    /// 14: markup that opens `<!D` or `<!d`. This reader takes no document type. It ends the run.
     DocType,
-    /// A name more than the stack has room for: 15. It ends the run.
+    /// 15: a name more than there is room for. It ends the run.
     NameStackFull,
-    /// The document has more bytes than [`LONGEST`]: 16. Every call gives it.
+    /// 16: the document has more bytes than [`LONGEST`]. Every call gives it.
     SliceTooLong,
-    /// The state is none that a reader comes to: 17. A [`Reader`](crate::Reader) keeps its own state and never gives it.
+    /// 17: the archive was lent a state that cannot be read on from. A [`Reader`](crate::Reader) keeps its own state and never gives it.
     BadState,
+    /// 18: the document ends while names are open, of which this is the latest, where
+    /// [`check_open_names`](crate::reader::Config::check_open_names) is on. Its place is the first byte of that name. They stay open:
+    /// [`ReaderExt::open_names`](crate::ext::ReaderExt::open_names) has them all. It comes once, and not after a refusal that ended the run.
+    ///
+    /// ```
+    /// use sporebasket::errors::{Error, Refused};
+    /// use sporebasket::ext::ReaderExt;
+    /// use sporebasket::name::QName;
+    /// use sporebasket::Reader;
+    ///
+    /// let mut reader = Reader::from_str("<t><r>");
+    /// reader.config_mut().check_open_names = true;
+    /// reader.read_event()?;
+    /// reader.read_event()?;
+    /// match reader.read_event() {
+    ///     Err(Error::Refused(Refused::UnclosedElements(latest))) => assert_eq!(latest, "r"),
+    ///     other => panic!("{other:?}"),
+    /// }
+    /// assert_eq!(reader.error_position(), 4);
+    /// assert!(reader.open_names().eq([QName("t"), QName("r")]));
+    /// # Ok::<(), Error>(())
+    /// ```
+    UnclosedElements(String),
 }
 
 /// How a document leaves the grammar.
 ///
 /// ```
-/// use sporebasket::{Error, Reader, SyntaxError};
+/// use sporebasket::errors::{Error, SyntaxError};
+/// use sporebasket::Reader;
 ///
 /// let mut reader = Reader::from_str("a<b c='>");
 /// reader.read_event()?;
-/// assert_eq!(
-///     reader.read_event().unwrap_err(),
-///     Error::Syntax(SyntaxError::UnclosedSingleQuotedAttributeValue),
-/// );
+/// match reader.read_event() {
+///     Err(Error::Syntax(error)) => assert_eq!(error, SyntaxError::UnclosedSingleQuotedAttributeValue),
+///     other => panic!("{other:?}"),
+/// }
 /// assert_eq!(reader.error_position(), 1);
 /// # Ok::<(), Error>(())
 /// ```
-#[derive(Clone, Copy, Debug, PartialEq, Eq, Hash)]
-#[non_exhaustive]
+#[derive(Clone, Copy, Debug, PartialEq, Eq)]
 pub enum SyntaxError {
+    /// 8: `<!` before something else than a comment, a CDATA section or a document type.
+    InvalidBangMarkup,
+    /// 6: a processing instruction without its `?>`.
+    UnclosedPI,
+    /// 7: an XML declaration without its `?>`.
+    UnclosedXmlDecl,
+    /// 4: a comment without its `-->`, or one that does not open with `<!--`.
+    UnclosedComment,
+    /// A document type without its `>`. The reader refuses every document type (14) and does not give it.
+    UnclosedDoctype,
+    /// 5: a CDATA section without its `]]>`, or one that does not open with `<![CDATA[`.
+    UnclosedCData,
     /// 1: a tag without its `>`.
     UnclosedTag,
     /// 2: a tag that ends within `'`.
     UnclosedSingleQuotedAttributeValue,
     /// 3: a tag that ends within `"`.
     UnclosedDoubleQuotedAttributeValue,
-    /// 4: a comment without its `-->`, or one that does not open with `<!--`.
-    UnclosedComment,
-    /// 5: a CDATA section without its `]]>`, or one that does not open with `<![CDATA[`.
-    UnclosedCData,
-    /// 6: a processing instruction without its `?>`.
-    UnclosedPI,
-    /// 7: an XML declaration without its `?>`.
-    UnclosedXmlDecl,
-    /// 8: `<!` before something else than a comment or a CDATA section.
-    InvalidBangMarkup,
 }
 
 /// How a document is not well formed.
 ///
 /// ```
-/// use sporebasket::{Error, IllFormedError, Reader};
+/// use sporebasket::errors::{Error, IllFormedError};
+/// use sporebasket::Reader;
 ///
-/// let mut reader = Reader::from_str("</a>");
-/// assert_eq!(
-///     reader.read_event().unwrap_err(),
-///     Error::IllFormed(IllFormedError::UnmatchedEndTag("a".into())),
-/// );
+/// match Reader::from_str("</a>").read_event() {
+///     Err(Error::IllFormed(error)) => assert_eq!(error, IllFormedError::UnmatchedEndTag("a".into())),
+///     other => panic!("{other:?}"),
+/// }
 /// ```
-#[derive(Clone, Debug, PartialEq, Eq, Hash)]
-#[non_exhaustive]
+#[derive(Clone, Debug, PartialEq, Eq)]
 pub enum IllFormedError {
-    /// 9: `--` in a comment, where [`check_comments`](crate::Config::check_comments) is on. Its place is the first hyphen of the first pair.
-    DoubleHyphenInComment,
+    /// An XML declaration without a `version`, or with another attribute, which is told, before it. The reader does not look at that.
+    MissingDeclVersion(Option<String>),
+    /// An XML declaration with a `version` that is neither 1.0 nor 1.1. The reader does not look at that.
+    UnknownVersion,
+    /// A document type without a name. The reader refuses every document type (14) and does not give it.
+    MissingDoctypeName,
+    /// [`read_to_end`](crate::Reader::read_to_end) or [`read_text`](crate::Reader::read_text) came to the end of the document before the end of this
+    /// element.
+    MissingEndTag(String),
+    /// 11: a closing tag, of this name, with nothing open.
+    UnmatchedEndTag(String),
     /// 10: a closing tag with another name than the latest open one, which is no longer open.
     MismatchedEndTag {
         /// The name that was open.
@@ -104,30 +170,10 @@ pub enum IllFormedError {
         /// The name of the closing tag.
         found: String,
     },
-    /// 11: a closing tag, of this name, with nothing open.
-    UnmatchedEndTag(String),
+    /// 9: `--` in a comment, where [`check_comments`](crate::reader::Config::check_comments) is on. Its place is the first hyphen of the first pair.
+    DoubleHyphenInComment,
     /// 12: an `&` without its `;`.
     UnclosedReference,
-    /// 18: the document ends while names are open, of which this is the latest, where [`check_open_names`](crate::Config::check_open_names) is
-    /// on. Its place is the first byte of that name. They stay open: [`Reader::open_names`](crate::Reader::open_names) has them all. It comes
-    /// once, and not after a refusal that ended the run. quick-xml has the like, `MissingEndTag`, in its `read_to_end` alone.
-    ///
-    /// ```
-    /// use sporebasket::{Error, IllFormedError, Reader};
-    ///
-    /// let mut reader = Reader::from_str("<t><r>");
-    /// reader.config_mut().check_open_names = true;
-    /// reader.read_event()?;
-    /// reader.read_event()?;
-    /// match reader.read_event() {
-    ///     Err(Error::IllFormed(IllFormedError::UnclosedElements(latest))) => assert_eq!(latest, "r"),
-    ///     other => panic!("{other:?}"),
-    /// }
-    /// assert_eq!(reader.error_position(), 4);
-    /// assert!(reader.open_names().eq([b"t", b"r"]));
-    /// # Ok::<(), Error>(())
-    /// ```
-    UnclosedElements(String),
 }
 
 /// The bytes that a refusal tells: its piece; the expected name and the one found, for the refusals that have them; and the latest open name, if
@@ -167,48 +213,31 @@ impl Error {
             13 => match std::str::from_utf8(told.piece) {
                 Err(error) => error.into(),
                 // 13 comes for no piece that is UTF-8
-                Ok(_) => Error::BadState,
+                Ok(_) => Refused::BadState.into(),
             },
-            14 => Error::DocType,
-            15 => Error::NameStackFull,
-            16 => Error::SliceTooLong,
-            18 => IllFormedError::UnclosedElements(owned(told.latest)).into(),
-            _ => Error::BadState,
+            14 => Refused::DocType.into(),
+            15 => Refused::NameStackFull.into(),
+            16 => Refused::SliceTooLong.into(),
+            18 => Refused::UnclosedElements(owned(told.latest)).into(),
+            _ => Refused::BadState.into(),
         }
     }
 
-    /// The number of the refusal.
-    ///
-    /// ```
-    /// use sporebasket::Reader;
-    ///
-    /// let mut reader = Reader::from_str("<!doctype x>");
-    /// assert_eq!(reader.read_event().unwrap_err().number(), 14);
-    /// ```
-    pub fn number(&self) -> u8 {
-        match self {
-            Error::Syntax(error) => match error {
-                SyntaxError::UnclosedTag => 1,
-                SyntaxError::UnclosedSingleQuotedAttributeValue => 2,
-                SyntaxError::UnclosedDoubleQuotedAttributeValue => 3,
-                SyntaxError::UnclosedComment => 4,
-                SyntaxError::UnclosedCData => 5,
-                SyntaxError::UnclosedPI => 6,
-                SyntaxError::UnclosedXmlDecl => 7,
-                SyntaxError::InvalidBangMarkup => 8,
-            },
-            Error::IllFormed(error) => match error {
-                IllFormedError::DoubleHyphenInComment => 9,
-                IllFormedError::MismatchedEndTag { .. } => 10,
-                IllFormedError::UnmatchedEndTag(_) => 11,
-                IllFormedError::UnclosedReference => 12,
-                IllFormedError::UnclosedElements(_) => 18,
-            },
-            Error::Encoding(_) => 13,
-            Error::DocType => 14,
-            Error::NameStackFull => 15,
-            Error::SliceTooLong => 16,
-            Error::BadState => 17,
+    /// The end of an element of this name was not found.
+    pub(crate) fn missed_end(name: QName<'_>) -> Self {
+        IllFormedError::MissingEndTag(name.as_ref().to_owned()).into()
+    }
+}
+
+impl From<io::Error> for Error {
+    /// An [`EncodingError`] that an I/O error carries comes out of it.
+    fn from(error: io::Error) -> Self {
+        if error.kind() != io::ErrorKind::InvalidData {
+            return Error::Io(Arc::new(error));
+        }
+        match error.downcast::<EncodingError>() {
+            Ok(error) => Error::Encoding(error),
+            Err(error) => Error::Io(Arc::new(error)),
         }
     }
 }
@@ -237,45 +266,118 @@ impl From<Utf8Error> for Error {
     }
 }
 
+impl From<EscapeError> for Error {
+    fn from(error: EscapeError) -> Self {
+        Error::Escape(error)
+    }
+}
+
+impl From<AttrError> for Error {
+    fn from(error: AttrError) -> Self {
+        Error::InvalidAttr(error)
+    }
+}
+
+impl From<NamespaceError> for Error {
+    fn from(error: NamespaceError) -> Self {
+        Error::Namespace(error)
+    }
+}
+
+impl From<Refused> for Error {
+    fn from(error: Refused) -> Self {
+        Error::Refused(error)
+    }
+}
+
+/// Two I/O errors are equal if they are one.
+impl PartialEq for Error {
+    fn eq(&self, other: &Self) -> bool {
+        match (self, other) {
+            (Error::Io(one), Error::Io(two)) => Arc::ptr_eq(one, two),
+            (Error::Syntax(one), Error::Syntax(two)) => one == two,
+            (Error::IllFormed(one), Error::IllFormed(two)) => one == two,
+            (Error::InvalidAttr(one), Error::InvalidAttr(two)) => one == two,
+            (Error::Encoding(one), Error::Encoding(two)) => one == two,
+            (Error::Escape(one), Error::Escape(two)) => one == two,
+            (Error::Namespace(one), Error::Namespace(two)) => one == two,
+            (Error::Refused(one), Error::Refused(two)) => one == two,
+            _ => false,
+        }
+    }
+}
+
+impl Eq for Error {}
+
 impl fmt::Display for Error {
     fn fmt(&self, f: &mut fmt::Formatter<'_>) -> fmt::Result {
         match self {
-            Error::Syntax(error) => error.fmt(f),
-            Error::IllFormed(error) => error.fmt(f),
+            Error::Io(error) => write!(f, "I/O error: {error}"),
+            Error::Syntax(error) => write!(f, "syntax error: {error}"),
+            Error::IllFormed(error) => write!(f, "ill-formed document: {error}"),
+            Error::InvalidAttr(error) => write!(f, "error while parsing attribute: {error}"),
             Error::Encoding(error) => error.fmt(f),
-            Error::DocType => f.write_str("a document type, which this reader does not take"),
-            Error::NameStackFull => write!(f, "more open elements than there is room for (at most {MOST_NAMES})"),
-            Error::SliceTooLong => write!(f, "a document of more than {LONGEST} bytes"),
-            Error::BadState => f.write_str("a state that no reader comes to"),
+            Error::Escape(error) => error.fmt(f),
+            Error::Namespace(error) => error.fmt(f),
+            Error::Refused(error) => error.fmt(f),
         }
     }
 }
 
 impl fmt::Display for SyntaxError {
     fn fmt(&self, f: &mut fmt::Formatter<'_>) -> fmt::Result {
-        f.write_str(match self {
-            SyntaxError::UnclosedTag => "a tag lacks its `>`",
-            SyntaxError::UnclosedSingleQuotedAttributeValue => "a value in a tag lacks its closing `'`",
-            SyntaxError::UnclosedDoubleQuotedAttributeValue => "a value in a tag lacks its closing `\"`",
-            SyntaxError::UnclosedComment => "a comment is not `<!--`, some text and `-->`",
-            SyntaxError::UnclosedCData => "a CDATA section is not `<![CDATA[`, some text and `]]>`",
-            SyntaxError::UnclosedPI => "a processing instruction lacks its `?>`",
-            SyntaxError::UnclosedXmlDecl => "the XML declaration lacks its `?>`",
-            SyntaxError::InvalidBangMarkup => "`<!` opens neither a comment nor a CDATA section",
-        })
+        let (what, end) = match self {
+            SyntaxError::InvalidBangMarkup => return f.write_str("unknown or missed symbol in markup"),
+            SyntaxError::UnclosedPI => ("processing instruction", "?>"),
+            SyntaxError::UnclosedXmlDecl => ("XML declaration", "?>"),
+            SyntaxError::UnclosedComment => ("comment", "-->"),
+            SyntaxError::UnclosedDoctype => ("DOCTYPE", ">"),
+            SyntaxError::UnclosedCData => ("CDATA", "]]>"),
+            SyntaxError::UnclosedTag => ("tag", ">"),
+            SyntaxError::UnclosedSingleQuotedAttributeValue => ("attribute value", "'"),
+            SyntaxError::UnclosedDoubleQuotedAttributeValue => ("attribute value", "\""),
+        };
+        write!(f, "{what} not closed: `{end}` not found before end of input")
     }
 }
 
 impl fmt::Display for IllFormedError {
     fn fmt(&self, f: &mut fmt::Formatter<'_>) -> fmt::Result {
         match self {
-            IllFormedError::DoubleHyphenInComment => f.write_str("a comment has `--` in it"),
-            IllFormedError::MismatchedEndTag { expected, found } => {
-                write!(f, "`</{found}>` stands where `</{expected}>` is due")
+            IllFormedError::MissingDeclVersion(None) => {
+                f.write_str("an XML declaration does not contain `version` attribute")
             }
-            IllFormedError::UnmatchedEndTag(found) => write!(f, "`</{found}>` closes nothing"),
-            IllFormedError::UnclosedReference => f.write_str("a reference lacks its `;`"),
-            IllFormedError::UnclosedElements(latest) => write!(f, "the document ends while `<{latest}>` is open"),
+            IllFormedError::MissingDeclVersion(Some(found)) => write!(
+                f,
+                "an XML declaration must start with `version` attribute, but in starts with `{found}`"
+            ),
+            IllFormedError::UnknownVersion => f.write_str("unknown XML version: either 1.0 or 1.1 is expected"),
+            IllFormedError::MissingDoctypeName => {
+                f.write_str("`<!DOCTYPE>` declaration does not contain a name of a document type")
+            }
+            IllFormedError::MissingEndTag(name) => {
+                write!(f, "start tag not closed: `</{name}>` not found before end of input")
+            }
+            IllFormedError::UnmatchedEndTag(found) => write!(f, "close tag `</{found}>` does not match any open tag"),
+            IllFormedError::MismatchedEndTag { expected, found } => {
+                write!(f, "expected `</{expected}>`, but `</{found}>` was found")
+            }
+            IllFormedError::DoubleHyphenInComment => f.write_str("forbidden string `--` was found in a comment"),
+            IllFormedError::UnclosedReference => {
+                f.write_str("entity or character reference not closed: `;` not found before end of input")
+            }
+        }
+    }
+}
+
+impl fmt::Display for Refused {
+    fn fmt(&self, f: &mut fmt::Formatter<'_>) -> fmt::Result {
+        match self {
+            Refused::DocType => f.write_str("a document type, which this reader does not take"),
+            Refused::NameStackFull => write!(f, "more open elements than there is room for (at most {MOST_NAMES})"),
+            Refused::SliceTooLong => write!(f, "a document of more than {LONGEST} bytes"),
+            Refused::BadState => f.write_str("a state that cannot be read on from"),
+            Refused::UnclosedElements(latest) => write!(f, "the document ends while `<{latest}>` is open"),
         }
     }
 }
@@ -284,11 +386,27 @@ impl error::Error for SyntaxError {}
 
 impl error::Error for IllFormedError {}
 
-impl error::Error for Error {}
+impl error::Error for Refused {}
+
+impl error::Error for Error {
+    fn source(&self) -> Option<&(dyn error::Error + 'static)> {
+        Some(match self {
+            Error::Io(error) => error,
+            Error::Syntax(error) => error,
+            Error::IllFormed(error) => error,
+            Error::InvalidAttr(error) => error,
+            Error::Encoding(error) => error,
+            Error::Escape(error) => error,
+            Error::Namespace(error) => error,
+            Error::Refused(error) => error,
+        })
+    }
+}
 
 #[cfg(test)]
 mod tests {
     use super::{Error, Told};
+    use crate::ext::ErrorExt;
 
     fn numbered(number: usize) -> Error {
         let told = Told {
@@ -303,7 +421,7 @@ mod tests {
     #[test]
     fn numbers_there_and_back() {
         for number in 1..=18 {
-            assert_eq!(usize::from(numbered(number).number()), number);
+            assert_eq!(numbered(number).number().map(usize::from), Some(number));
         }
     }
 
@@ -316,12 +434,24 @@ mod tests {
     #[test]
     fn names_are_told() {
         let texts = [
-            (10, "`</b>` stands where `</a>` is due"),
-            (11, "`</b>` closes nothing"),
+            (10, "ill-formed document: expected `</a>`, but `</b>` was found"),
+            (11, "ill-formed document: close tag `</b>` does not match any open tag"),
             (18, "the document ends while `<c>` is open"),
         ];
         for (number, text) in texts {
             assert_eq!(numbered(number).to_string(), text);
+        }
+    }
+
+    #[test]
+    fn an_error_is_equal_to_itself_and_to_no_other() {
+        let mut errors: Vec<Error> = (1..=18).map(numbered).collect();
+        errors.push(std::io::Error::other("a").into());
+        errors.push(std::io::Error::other("a").into());
+        for (i, one) in errors.iter().enumerate() {
+            for (j, two) in errors.iter().enumerate() {
+                assert_eq!(one.clone() == *two, i == j);
+            }
         }
     }
 }

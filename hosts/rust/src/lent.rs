@@ -23,7 +23,8 @@
 //! ```
 #![allow(unsafe_code)]
 
-use crate::raw;
+use crate::raw::{self, answer as slot};
+use std::str;
 
 pub use crate::raw::{ANSWER_SLOTS, COLUMN_SLOTS, NAME_SLOTS, PART_SLOTS, STATE_SLOTS};
 
@@ -106,6 +107,39 @@ pub fn read_event(document: &[u8], stack: &mut [usize], state: &mut [usize], ans
         )
     }
 }
+
+/// [`read_event`], and the piece of the event as a string, or the number of the refusal.
+///
+/// The piece of an event is UTF-8, whatever the document, the stack and the state are: that is the theorem `an-event's-piece-is-well-formed` (docs/PROMISES.md). So
+/// it is not checked once more, but with the feature `checked`.
+#[inline]
+pub(crate) fn read_piece<'a>(
+    document: &'a [u8],
+    stack: &mut [usize],
+    state: &mut [usize; STATE_SLOTS],
+    answer: &mut [usize; ANSWER_SLOTS],
+) -> Result<&'a str, usize> {
+    match read_event(document, stack, state, answer) {
+        0 => {
+            let piece = document.get(answer[slot::PIECE]..answer[slot::PIECE + 1]);
+            as_str(piece.unwrap_or_default())
+        }
+        number => Err(number),
+    }
+}
+
+/// The piece of an event as a string. With the feature `checked` a piece that is not UTF-8 would be told as the archive's fault (17).
+#[inline]
+fn as_str(piece: &[u8]) -> Result<&str, usize> {
+    if cfg!(feature = "checked") {
+        return str::from_utf8(piece).map_err(|_| BAD_STATE);
+    }
+    // SAFETY: it is called for the piece of an event alone, right after the call that gave it, and that is UTF-8: `an-event's-piece-is-well-formed`.
+    Ok(unsafe { str::from_utf8_unchecked(piece) })
+}
+
+/// The refusal that no reader of this package gives.
+const BAD_STATE: usize = 17;
 
 /// Writes where the bytes of a span stand in the document: its start and its end, or twice the document's end if it does not lie there.
 ///

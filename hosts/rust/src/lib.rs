@@ -5,27 +5,31 @@
 //! links it as an archive and gives its numbers the names that a user of quick-xml knows.
 //!
 //! ```
-//! use sporebasket::{Event, Reader};
+//! use sporebasket::events::Event;
+//! use sporebasket::Reader;
 //!
 //! let mut reader = Reader::from_str("<t><r n=\"1\"/>06:15</t>");
 //! reader.config_mut().trim_text(true);
 //! loop {
 //!     match reader.read_event() {
-//!         Ok(Event::Start(tag)) => assert_eq!(tag.name(), b"t"),
-//!         Ok(Event::Empty(tag)) => assert_eq!(tag.attributes_raw(), b" n=\"1\""),
-//!         Ok(Event::Text(text)) => assert_eq!(text.as_str()?, "06:15"),
+//!         Ok(Event::Start(tag)) => assert_eq!(tag.name().as_ref(), "t"),
+//!         Ok(Event::Empty(tag)) => assert_eq!(tag.attributes_raw(), " n=\"1\""),
+//!         Ok(Event::Text(text)) => assert_eq!(text.into_inner(), "06:15"),
 //!         Ok(Event::Eof) => break,
 //!         Ok(_) => (),
 //!         Err(error) => panic!("{error} at byte {}", reader.error_position()),
 //!     }
 //! }
-//! # Ok::<(), Box<dyn std::error::Error>>(())
 //! ```
+//!
+//! Code written for quick-xml 0.42's reader over a slice reads by this one where `Cargo.toml` has
+//! `quick-xml = { package = "sporebasket", path = ".." }`; what is different, and what is not here, stands in the README. What this reader tells beyond
+//! quick-xml's is in [`ext`].
 //!
 //! What is refused has a number, 1 to 18, and a place: see [`Error`]. A document has at most [`LONGEST`] bytes, at most [`MOST_NAMES`] names
 //! are open at once, and a document type is refused. Attributes and references are handed over as they stand. With
-//! [`check_open_names`](Config::check_open_names) a document that ends while names are open is refused: where [`Eof`](Event::Eof) comes and no error
-//! before it, every element was closed.
+//! [`check_open_names`](reader::Config::check_open_names) a document that ends while names are open is refused: where [`Eof`](events::Event::Eof) comes and
+//! no error before it, every element was closed.
 //!
 //! [`column()`] reads the times of a timetable's column, which may run past midnight:
 //!
@@ -48,8 +52,11 @@ pub mod column;
 mod config;
 pub mod encoding;
 pub mod errors;
+pub mod escape;
 pub mod events;
+pub mod ext;
 pub mod lent;
+pub mod name;
 mod raw;
 pub mod reader;
 mod time;
@@ -57,11 +64,7 @@ mod time;
 #[doc(inline)]
 pub use column::{column, read_column, Column, ColumnError, Time};
 #[doc(inline)]
-pub use encoding::EncodingError;
-#[doc(inline)]
-pub use errors::{Error, IllFormedError, SyntaxError};
-#[doc(inline)]
-pub use events::{BytesCData, BytesDecl, BytesEnd, BytesPI, BytesRef, BytesStart, BytesText, Event, Part};
+pub use errors::{Error, Result};
 pub use raw::{LONGEST, MOST_NAMES};
 #[doc(inline)]
-pub use reader::{Config, Phase, Reader};
+pub use reader::Reader;

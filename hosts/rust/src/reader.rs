@@ -1,13 +1,21 @@
 //! The reader: the memory that the archive is lent, and the names of its numbers.
 
-use crate::errors::{Error, Told};
-use crate::events::{Event, Part};
+use crate::errors::{owned, Error, Result, Told};
+use crate::events::{At, BytesText, Content, Event};
+use crate::ext::{Phase, ReaderExt};
 use crate::lent;
+use crate::name::QName;
 use crate::raw::{answer, state, ANSWER_SLOTS, MOST_NAMES, NAME_SLOTS, STATE_SLOTS};
+use std::borrow::Cow;
 use std::fmt;
+use std::mem;
 use std::ops::Range;
+use std::str;
 
 pub use crate::config::Config;
+
+/// A range of bytes of the document.
+pub type Span = Range<u64>;
 
 /// A reader of the events of a document in memory.
 ///
@@ -18,23 +26,37 @@ pub use crate::config::Config;
 /// call, up to room for [`MOST_NAMES`], which is 1 MiB.
 ///
 /// ```
-/// use sporebasket::{Event, Reader};
+/// use sporebasket::events::Event;
+/// use sporebasket::Reader;
 ///
 /// let mut reader = Reader::from_str("<t>06:15</t>");
 /// let mut times = Vec::new();
 /// loop {
 ///     match reader.read_event() {
-///         Ok(Event::Text(text)) => times.push(text.as_bytes()),
+///         Ok(Event::Text(text)) => times.push(text.into_inner()),
 ///         Ok(Event::Eof) => break,
 ///         Ok(_) => (),
 ///         Err(error) => panic!("{error} at {}", reader.error_position()),
 ///     }
 /// }
-/// assert_eq!(times, [b"06:15"]);
+/// assert_eq!(times, ["06:15"]);
+/// ```
+///
+/// `R` is what is read from. Documents are slices, so that is `&[u8]`:
+///
+/// ```
+/// use sporebasket::Reader;
+///
+/// fn is_at_end(reader: &Reader<&[u8]>) -> bool {
+///     reader.get_ref().is_empty()
+/// }
+/// assert!(is_at_end(&Reader::from_str("")));
 /// ```
 #[derive(Clone)]
-pub struct Reader<'a> {
-    document: &'a [u8],
+pub struct Reader<R> {
+    document: R,
+    /// What of the document is yet to be read.
+    rest: R,
     config: Config,
     /// 0, or the number of the refusal to make a reader. Then the state holds none, and the archive refuses every call.
     made: usize,
@@ -49,102 +71,21 @@ pub struct Reader<'a> {
     error_position: usize,
 }
 
-/// What a reader does next.
-///
-/// ```
-/// use sporebasket::{Phase, Reader};
-///
-/// let mut reader = Reader::from_str("a<b/>");
-/// assert_eq!(reader.phase(), Phase::Init);
-/// reader.read_event()?;
-/// assert_eq!(reader.phase(), Phase::InsideMarkup);
-/// # Ok::<(), sporebasket::Error>(())
-/// ```
-#[derive(Clone, Copy, Debug, PartialEq, Eq, Hash)]
-#[non_exhaustive]
-pub enum Phase {
-    /// It has not begun.
-    Init,
-    /// It goes on with text.
-    InsideText,
-    /// It stands at a `<`.
-    InsideMarkup,
-    /// It stands at an `&`.
-    InsideRef,
-    /// It owes the End of an expanded empty element.
-    InsideEmpty,
-    /// It gives only [`Eof`](Event::Eof), or before it, once, [`UnclosedElements`](crate::IllFormedError::UnclosedElements).
-    Done,
-}
-
-impl<'a> Reader<'a> {
-    /// A reader over bytes, with the default settings. As many names may be open as [`MOST_NAMES`]; the room for them is taken as they open.
-    ///
-    /// ```
-    /// use sporebasket::{Error, Event, Reader};
-    ///
-    /// assert_eq!(Reader::from_reader(b"").read_event(), Ok(Event::Eof));
-    /// assert!(matches!(Reader::from_reader(b"\xC0\x80").read_event(), Err(Error::Encoding(_))));
-    /// ```
-    pub fn from_reader(document: &'a [u8]) -> Self {
-        Reader::with_capacity(document, MOST_NAMES)
-    }
-
-    /// A reader over a string.
-    ///
-    /// ```
-    /// use sporebasket::{Event, Reader};
-    ///
-    /// assert!(matches!(Reader::from_str("<a>").read_event()?, Event::Start(_)));
-    /// # Ok::<(), sporebasket::Error>(())
-    /// ```
-    // The name is quick-xml's; `FromStr` could not borrow the string.
-    #[allow(clippy::should_implement_trait)]
-    pub fn from_str(document: &'a str) -> Self {
-        Reader::from_reader(document.as_bytes())
-    }
-
-    /// A reader in which at most so many names may be open, and never more than [`MOST_NAMES`]: a name more is refused
-    /// ([`NameStackFull`](Error::NameStackFull)). The bound is fixed. The room is taken as names open, and ends at 16 bytes for each name
-    /// that is asked for.
-    ///
-    /// ```
-    /// use sporebasket::{Error, Reader};
-    ///
-    /// let mut reader = Reader::with_capacity(b"<a><b>", 1);
-    /// assert!(reader.read_event().is_ok());
-    /// assert_eq!(reader.read_event(), Err(Error::NameStackFull));
-    /// ```
-    pub fn with_capacity(document: &'a [u8], names: usize) -> Self {
-        let config = Config::default();
-        let mut state = [0; STATE_SLOTS];
-        let made = lent::new(document, config.bits(), &mut state);
-        Reader {
-            document,
-            config,
-            made,
-            state,
-            stack: Vec::new(),
-            names: names.min(MOST_NAMES),
-            pause: 0,
-            answer: [0; ANSWER_SLOTS],
-            error_position: 0,
-        }
-    }
-
+impl<R> Reader<R> {
     /// The settings.
     ///
     /// ```
     /// assert!(sporebasket::Reader::from_str("").config().check_end_names);
     /// ```
-    pub fn config(&self) -> &Config {
+    pub const fn config(&self) -> &Config {
         &self.config
     }
 
     /// The settings, to be changed. They count from the next call on.
     ///
     /// ```
-    /// use sporebasket::{Event, Reader};
+    /// use sporebasket::events::Event;
+    /// use sporebasket::Reader;
     ///
     /// let mut reader = Reader::from_str("<a/><a/>");
     /// assert!(matches!(reader.read_event()?, Event::Empty(_)));
@@ -153,37 +94,8 @@ impl<'a> Reader<'a> {
     /// # Ok::<(), sporebasket::Error>(())
     /// ```
     pub fn config_mut(&mut self) -> &mut Config {
-        self.pause = self.depth();
+        self.pause = self.state[state::DEPTH];
         &mut self.config
-    }
-
-    /// The next event, or why there is none. Reading may go on after a refusal; [`Error`] says how.
-    ///
-    /// ```
-    /// use sporebasket::{Error, Event, Reader};
-    ///
-    /// let mut reader = Reader::from_str("a&b");
-    /// assert_eq!(reader.read_event()?.as_bytes(), b"a");
-    /// assert_eq!(reader.read_event().unwrap_err().number(), 12);
-    /// assert_eq!(reader.read_event()?, Event::Eof);
-    /// # Ok::<(), Error>(())
-    /// ```
-    #[inline]
-    pub fn read_event(&mut self) -> Result<Event<'a>, Error> {
-        if self.depth() == self.pause {
-            self.prepare();
-        }
-        let number = lent::read_event(self.document, &mut self.stack, &mut self.state, &mut self.answer);
-        if number != 0 {
-            return Err(self.refused(number));
-        }
-        let part = Part {
-            bytes: self.bytes(answer::CONTENT),
-            piece: self.span(answer::PIECE),
-            content: self.answer[answer::CONTENT],
-            name: self.answer[answer::NAME],
-        };
-        Ok(Event::of_kind(self.answer[answer::KIND], part))
     }
 
     /// How far the reader has come: the bytes before this place are read.
@@ -194,7 +106,7 @@ impl<'a> Reader<'a> {
     /// assert_eq!(reader.buffer_position(), 3);
     /// # Ok::<(), sporebasket::Error>(())
     /// ```
-    pub fn buffer_position(&self) -> u64 {
+    pub const fn buffer_position(&self) -> u64 {
         self.state[state::POSITION] as u64
     }
 
@@ -209,108 +121,32 @@ impl<'a> Reader<'a> {
     /// assert_eq!(reader.error_position(), 3);
     /// # Ok::<(), sporebasket::Error>(())
     /// ```
-    pub fn error_position(&self) -> u64 {
+    pub const fn error_position(&self) -> u64 {
         self.error_position as u64
     }
 
-    /// The piece of the last answer, be it an event or a refusal; 0..0 if there was none.
+    /// What of the document is yet to be read. Markup that the end of the document cuts off is not read.
     ///
     /// ```
-    /// let mut reader = sporebasket::Reader::from_str("<a></b>");
+    /// let mut reader = sporebasket::Reader::from_str("<a>06:15");
     /// reader.read_event()?;
-    /// assert!(reader.read_event().is_err());
-    /// assert_eq!(reader.piece(), 3..7);
+    /// assert_eq!(reader.get_ref(), b"06:15");
     /// # Ok::<(), sporebasket::Error>(())
     /// ```
-    pub fn piece(&self) -> Range<usize> {
-        let (from, to) = self.span(answer::PIECE);
-        from..to
+    pub const fn get_ref(&self) -> &R {
+        &self.rest
     }
 
-    /// Where the open name stands that a closing tag was refused for, if the last answer was such a refusal (10).
+    /// What of the document is yet to be read, in the reader's place.
     ///
     /// ```
-    /// let mut reader = sporebasket::Reader::from_str("<a></b>");
+    /// let mut reader = sporebasket::Reader::from_str("<a>06:15");
     /// reader.read_event()?;
-    /// assert_eq!(reader.expected(), None);
-    /// assert!(reader.read_event().is_err());
-    /// assert_eq!(reader.expected(), Some(1..2));
+    /// assert_eq!(reader.into_inner(), b"06:15");
     /// # Ok::<(), sporebasket::Error>(())
     /// ```
-    pub fn expected(&self) -> Option<Range<usize>> {
-        let (from, to) = self.span(answer::EXPECTED);
-        (self.answer[answer::NUMBER] == MISMATCHED).then_some(from..to)
-    }
-
-    /// Where the name of a closing tag stands that was refused, if the last answer was such a refusal (10 or 11).
-    ///
-    /// ```
-    /// let mut reader = sporebasket::Reader::from_str("</a>");
-    /// assert!(reader.read_event().is_err());
-    /// assert_eq!(reader.found(), Some(2..3));
-    /// ```
-    pub fn found(&self) -> Option<Range<usize>> {
-        let (from, to) = self.span(answer::FOUND);
-        let number = self.answer[answer::NUMBER];
-        (number == MISMATCHED || number == UNMATCHED).then_some(from..to)
-    }
-
-    /// How many names are open.
-    ///
-    /// ```
-    /// let mut reader = sporebasket::Reader::from_str("<a>");
-    /// reader.read_event()?;
-    /// assert_eq!(reader.depth(), 1);
-    /// # Ok::<(), sporebasket::Error>(())
-    /// ```
-    #[inline]
-    pub fn depth(&self) -> usize {
-        self.state[state::DEPTH]
-    }
-
-    /// The open names, the outermost first.
-    ///
-    /// ```
-    /// let mut reader = sporebasket::Reader::from_str("<a><b c='d'>");
-    /// reader.read_event()?;
-    /// reader.read_event()?;
-    /// assert!(reader.open_names().eq([b"a", b"b"]));
-    /// assert_eq!(reader.open_names().last(), Some(&b"b"[..]));
-    /// # Ok::<(), sporebasket::Error>(())
-    /// ```
-    pub fn open_names(&self) -> impl DoubleEndedIterator<Item = &'a [u8]> + ExactSizeIterator + '_ {
-        let document = self.document;
-        let entries = self.stack.chunks_exact(NAME_SLOTS).take(self.depth());
-        entries.map(move |entry| document.get(entry[0]..entry[1]).unwrap_or_default())
-    }
-
-    /// What the reader does next.
-    ///
-    /// ```
-    /// use sporebasket::{Phase, Reader};
-    ///
-    /// let mut reader = Reader::from_str("<!x>");
-    /// assert!(reader.read_event().is_err());
-    /// assert_eq!(reader.phase(), Phase::Done);
-    /// ```
-    pub fn phase(&self) -> Phase {
-        match self.state[state::PHASE] {
-            0 => Phase::Init,
-            1 => Phase::InsideText,
-            2 => Phase::InsideMarkup,
-            3 => Phase::InsideRef,
-            4 => Phase::InsideEmpty,
-            _ => Phase::Done,
-        }
-    }
-
-    /// The document, whole.
-    ///
-    /// ```
-    /// assert_eq!(sporebasket::Reader::from_str("<a>").document(), b"<a>");
-    /// ```
-    pub fn document(&self) -> &'a [u8] {
-        self.document
+    pub fn into_inner(self) -> R {
+        self.rest
     }
 
     /// A span of the last answer.
@@ -318,12 +154,208 @@ impl<'a> Reader<'a> {
     fn span(&self, slot: usize) -> (usize, usize) {
         (self.answer[slot], self.answer[slot + 1])
     }
+}
+
+impl<'a> Reader<&'a [u8]> {
+    /// A reader over bytes, with the default settings. As many names may be open as [`MOST_NAMES`]; the room for them is taken as they open.
+    ///
+    /// ```
+    /// use sporebasket::events::Event;
+    /// use sporebasket::{Error, Reader};
+    ///
+    /// assert_eq!(Reader::from_reader(b"").read_event(), Ok(Event::Eof));
+    /// assert!(matches!(Reader::from_reader(b"\xC0\x80").read_event(), Err(Error::Encoding(_))));
+    /// ```
+    pub fn from_reader(reader: &'a [u8]) -> Self {
+        Reader::with_capacity(reader, MOST_NAMES)
+    }
+
+    /// A reader over a string.
+    ///
+    /// ```
+    /// use sporebasket::events::Event;
+    /// use sporebasket::Reader;
+    ///
+    /// assert!(matches!(Reader::from_str("<a>").read_event()?, Event::Start(_)));
+    /// # Ok::<(), sporebasket::Error>(())
+    /// ```
+    // The name is quick-xml's; `FromStr` could not borrow the string.
+    #[allow(clippy::should_implement_trait)]
+    pub fn from_str(s: &'a str) -> Self {
+        Reader::from_reader(s.as_bytes())
+    }
+
+    /// The next event, or why there is none. Reading may go on after a refusal; [`Error`] says how.
+    ///
+    /// ```
+    /// use sporebasket::errors::{Error, IllFormedError};
+    /// use sporebasket::events::Event;
+    /// use sporebasket::Reader;
+    ///
+    /// let mut reader = Reader::from_str("a&b");
+    /// assert_eq!(&*reader.read_event()?, "a");
+    /// assert_eq!(reader.read_event(), Err(Error::IllFormed(IllFormedError::UnclosedReference)));
+    /// assert_eq!(reader.read_event()?, Event::Eof);
+    /// # Ok::<(), Error>(())
+    /// ```
+    #[inline]
+    pub fn read_event(&mut self) -> Result<Event<'a>> {
+        if self.state[state::DEPTH] == self.pause {
+            self.prepare();
+        }
+        match lent::read_piece(self.document, &mut self.stack, &mut self.state, &mut self.answer) {
+            Ok(piece) => {
+                self.rest = self.from_place(self.state[state::POSITION]);
+                Ok(self.event(piece))
+            }
+            Err(number) => Err(self.refused(number)),
+        }
+    }
+
+    /// The next event, with its text in a buffer: the piece is put behind what the buffer holds. A slice needs none, so that
+    /// [`read_event`](Reader::read_event) is as good; this is for code that has one.
+    ///
+    /// ```
+    /// use sporebasket::events::Event;
+    /// use sporebasket::Reader;
+    ///
+    /// let mut reader = Reader::from_str("<t>06:15");
+    /// let mut buffer = Vec::new();
+    /// assert!(matches!(reader.read_event_into(&mut buffer)?, Event::Start(_)));
+    /// assert_eq!(&*reader.read_event_into(&mut buffer)?, "06:15");
+    /// assert_eq!(buffer, b"<t>06:15");
+    /// # Ok::<(), sporebasket::Error>(())
+    /// ```
+    pub fn read_event_into<'b>(&mut self, buf: &'b mut Vec<u8>) -> Result<Event<'b>> {
+        let read = self.read_event().map(drop);
+        let start = buf.len();
+        buf.extend_from_slice(self.bytes(answer::PIECE));
+        read?;
+        Ok(self.event(str::from_utf8(&buf[start..])?))
+    }
+
+    /// Reads on to the closing tag that belongs to an opening tag of this name which was read last. Gives the span between the two.
+    ///
+    /// Tags of the same name in between are counted; that all others are closed is up to the settings. A refusal ends it, and so does the end of the
+    /// document, by [`MissingEndTag`](crate::errors::IllFormedError::MissingEndTag).
+    ///
+    /// ```
+    /// use sporebasket::events::Event;
+    /// use sporebasket::Reader;
+    ///
+    /// let document = "<r><r>06:15</r> </r><s/>";
+    /// let mut reader = Reader::from_str(document);
+    /// let Event::Start(tag) = reader.read_event()? else { panic!() };
+    /// assert_eq!(reader.read_to_end(tag.name())?, 3..16);
+    /// assert!(matches!(reader.read_event()?, Event::Empty(_)));
+    /// # Ok::<(), sporebasket::Error>(())
+    /// ```
+    pub fn read_to_end(&mut self, end: QName<'_>) -> Result<Span> {
+        self.untrimmed(|reader| reader.skip(end, |reader| reader.read_event()))
+    }
+
+    /// [`read_to_end`](Reader::read_to_end) by [`read_event_into`](Reader::read_event_into). The buffer is cleared before each event.
+    ///
+    /// ```
+    /// use sporebasket::events::Event;
+    /// use sporebasket::name::QName;
+    /// use sporebasket::Reader;
+    ///
+    /// let mut reader = Reader::from_str("<r>06:15</r>");
+    /// let mut buffer = Vec::new();
+    /// reader.read_event_into(&mut buffer)?;
+    /// assert_eq!(reader.read_to_end_into(QName("r"), &mut buffer)?, 3..8);
+    /// # Ok::<(), sporebasket::Error>(())
+    /// ```
+    pub fn read_to_end_into(&mut self, end: QName<'_>, buf: &mut Vec<u8>) -> Result<Span> {
+        self.untrimmed(|reader| {
+            reader.skip(end, |reader| {
+                let read = reader.read_event();
+                buf.clear();
+                buf.extend_from_slice(reader.bytes(answer::PIECE));
+                read
+            })
+        })
+    }
+
+    /// [`read_to_end`](Reader::read_to_end), and what stands between the two tags, as it stands.
+    ///
+    /// ```
+    /// use sporebasket::events::Event;
+    /// use sporebasket::Reader;
+    ///
+    /// let mut reader = Reader::from_str("<r>06:15 <b>&amp; on</b></r>");
+    /// let Event::Start(tag) = reader.read_event()? else { panic!() };
+    /// assert_eq!(reader.read_text(tag.name())?.into_inner(), "06:15 <b>&amp; on</b>");
+    /// # Ok::<(), sporebasket::Error>(())
+    /// ```
+    pub fn read_text(&mut self, end: QName<'_>) -> Result<BytesText<'a>> {
+        let span = self.read_to_end(end)?;
+        let bytes = self.document.get(span.start as usize..span.end as usize);
+        Ok(BytesText::from_escaped(str::from_utf8(bytes.unwrap_or_default())?))
+    }
+
+    /// Reads events up to the End that belongs to a Start of this name.
+    fn skip(&mut self, end: QName<'_>, mut read: impl FnMut(&mut Self) -> Result<Event<'a>>) -> Result<Span> {
+        let start = self.buffer_position();
+        let mut depth = 0_usize;
+        loop {
+            let place = self.buffer_position();
+            match read(self)? {
+                Event::Start(tag) if tag.name() == end => depth += 1,
+                Event::End(tag) if tag.name() == end => match depth.checked_sub(1) {
+                    Some(fewer) => depth = fewer,
+                    None => return Ok(start..place),
+                },
+                Event::Eof => return Err(Error::missed_end(end)),
+                _ => (),
+            }
+        }
+    }
+
+    /// Does something while white space before text counts as text, so that the position before an event is where that event begins.
+    fn untrimmed(&mut self, done: impl FnOnce(&mut Self) -> Result<Span>) -> Result<Span> {
+        let trim = mem::replace(&mut self.config_mut().trim_text_start, false);
+        let span = done(self);
+        self.config_mut().trim_text_start = trim;
+        span
+    }
+
+    /// The event of the last answer, whose piece this is. The End of an expanded empty element has its name from another piece.
+    #[inline]
+    fn event<'p>(&self, piece: &'p str) -> Event<'p> {
+        let (from, to) = self.span(answer::CONTENT);
+        let start = self.answer[answer::PIECE];
+        let text = match piece.get(from.wrapping_sub(start)..to.wrapping_sub(start)) {
+            Some(text) => Cow::Borrowed(text),
+            None => Cow::Owned(owned(self.bytes(answer::CONTENT))),
+        };
+        let at = At::new(self.span(answer::PIECE), from);
+        Event::of_kind(
+            self.answer[answer::KIND],
+            Content { text, at },
+            self.answer[answer::NAME],
+        )
+    }
 
     /// The bytes of a span of the last answer. It lies in the document.
     #[inline]
     fn bytes(&self, slot: usize) -> &'a [u8] {
         let (from, to) = self.span(slot);
         self.document.get(from..to).unwrap_or_default()
+    }
+
+    /// The bytes of the open names, the outermost first.
+    fn entries(&self) -> impl DoubleEndedIterator<Item = &'a [u8]> + ExactSizeIterator + '_ {
+        let document = self.document;
+        let entries = self.stack.chunks_exact(NAME_SLOTS).take(self.depth());
+        entries.map(move |entry| document.get(entry[0]..entry[1]).unwrap_or_default())
+    }
+
+    /// The document from a place on.
+    #[inline]
+    fn from_place(&self, place: usize) -> &'a [u8] {
+        self.document.get(place..).unwrap_or_default()
     }
 
     /// Puts the settings into the state, and makes a full stack larger, if there may be more names.
@@ -346,30 +378,107 @@ impl<'a> Reader<'a> {
     #[cold]
     fn refused(&mut self, number: usize) -> Error {
         self.error_position = self.answer[answer::PLACE];
+        let piece = self.bytes(answer::PIECE);
+        self.rest = self.from_place(if is_read(number, piece) {
+            self.state[state::POSITION]
+        } else {
+            self.answer[answer::PIECE]
+        });
         let told = Told {
-            piece: self.bytes(answer::PIECE),
+            piece,
             expected: self.bytes(answer::EXPECTED),
             found: self.bytes(answer::FOUND),
-            latest: self.open_names().next_back().unwrap_or_default(),
+            latest: self.entries().next_back().unwrap_or_default(),
         };
         Error::numbered(if self.made == 0 { number } else { self.made }, told)
+    }
+}
+
+/// Whether a refused piece is read: markup whose end was not found is not.
+fn is_read(number: usize, piece: &[u8]) -> bool {
+    match number {
+        UNCLOSED_COMMENT => piece.len() > 6 && piece.ends_with(b"-->"),
+        UNCLOSED_CDATA => piece.ends_with(b"]]>"),
+        UNCLOSED_PI => piece.ends_with(b"?>"),
+        1..=INVALID_BANG_MARKUP => false,
+        _ => true,
+    }
+}
+
+impl<'a> ReaderExt<'a> for Reader<&'a [u8]> {
+    fn with_capacity(document: &'a [u8], names: usize) -> Self {
+        let config = Config::default();
+        let mut state = [0; STATE_SLOTS];
+        let made = lent::new(document, config.bits(), &mut state);
+        Reader {
+            document,
+            rest: document,
+            config,
+            made,
+            state,
+            stack: Vec::new(),
+            names: names.min(MOST_NAMES),
+            pause: 0,
+            answer: [0; ANSWER_SLOTS],
+            error_position: 0,
+        }
+    }
+
+    fn piece(&self) -> Range<usize> {
+        let (from, to) = self.span(answer::PIECE);
+        from..to
+    }
+
+    fn expected(&self) -> Option<Range<usize>> {
+        let (from, to) = self.span(answer::EXPECTED);
+        (self.answer[answer::NUMBER] == MISMATCHED).then_some(from..to)
+    }
+
+    fn found(&self) -> Option<Range<usize>> {
+        let (from, to) = self.span(answer::FOUND);
+        let number = self.answer[answer::NUMBER];
+        (number == MISMATCHED || number == UNMATCHED).then_some(from..to)
+    }
+
+    #[inline]
+    fn depth(&self) -> usize {
+        self.state[state::DEPTH]
+    }
+
+    fn open_names(&self) -> impl DoubleEndedIterator<Item = QName<'a>> + ExactSizeIterator + '_ {
+        // a name that was read is UTF-8
+        self.entries()
+            .map(|name| QName(str::from_utf8(name).unwrap_or_default()))
+    }
+
+    fn phase(&self) -> Phase {
+        Phase::numbered(self.state[state::PHASE])
+    }
+
+    fn document(&self) -> &'a [u8] {
+        self.document
     }
 }
 
 /// How many names a reader has room for at its first call, if it may have as many.
 const FIRST_NAMES: usize = 32;
 
+/// The refusals of markup whose end may have been found, and the last of those that may be of markup whose end was not.
+const UNCLOSED_COMMENT: usize = 4;
+const UNCLOSED_CDATA: usize = 5;
+const UNCLOSED_PI: usize = 6;
+const INVALID_BANG_MARKUP: usize = 8;
+
 /// The refusals that tell names.
 const MISMATCHED: usize = 10;
 const UNMATCHED: usize = 11;
 
-impl fmt::Debug for Reader<'_> {
+impl<R> fmt::Debug for Reader<R> {
     fn fmt(&self, f: &mut fmt::Formatter<'_>) -> fmt::Result {
         f.debug_struct("Reader")
-            .field("phase", &self.phase())
+            .field("phase", &Phase::numbered(self.state[state::PHASE]))
             .field("position", &self.buffer_position())
-            .field("depth", &self.depth())
-            .field("length", &self.document.len())
+            .field("depth", &self.state[state::DEPTH])
             .field("config", &self.config)
             .finish_non_exhaustive()
     }
@@ -377,7 +486,7 @@ impl fmt::Debug for Reader<'_> {
 
 #[cfg(test)]
 mod tests {
-    use super::{Event, Reader, FIRST_NAMES, MOST_NAMES, NAME_SLOTS};
+    use super::{Event, Reader, ReaderExt, FIRST_NAMES, MOST_NAMES, NAME_SLOTS};
 
     /// Reads a document that opens more names than may be, and sees the room before and after each call. Settings that may have changed make no room.
     fn room_doubles_where_it_is_full(asked: usize, changed: bool) {

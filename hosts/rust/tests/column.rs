@@ -4,7 +4,8 @@ mod common;
 
 use common::Numbers;
 use sporebasket::column::Refusal;
-use sporebasket::{column, lent, read_column, Column, Error, IllFormedError, Time, LONGEST, MOST_NAMES};
+use sporebasket::errors::{Error, IllFormedError, Refused};
+use sporebasket::{column, lent, read_column, Column, Time, LONGEST, MOST_NAMES};
 
 /// What a slot holds that nothing was written to.
 const LEFT: usize = 99_999;
@@ -428,7 +429,7 @@ fn a_byte_more_than_a_document_may_have() {
     assert_eq!(
         read_column(&document).refusal,
         Some(Refusal::Reader {
-            error: Error::SliceTooLong,
+            error: Error::Refused(Refused::SliceTooLong),
             position: 0
         })
     );
@@ -604,7 +605,7 @@ fn a_name_more_than_may_be_open() {
     assert_eq!(
         error.refusal,
         Refusal::Reader {
-            error: Error::NameStackFull,
+            error: Error::Refused(Refused::NameStackFull),
             position: error.position()
         }
     );
@@ -623,7 +624,7 @@ fn errors_tell_what_the_reader_tells_and_the_text_as_it_stands() {
                 error: mismatch,
                 position: 8,
             },
-            "`</stop>` stands where `</t>` is due, at byte 8",
+            "ill-formed document: expected `</t>`, but `</stop>` was found, at byte 8",
         ),
         (
             b"</t>",
@@ -631,7 +632,7 @@ fn errors_tell_what_the_reader_tells_and_the_text_as_it_stands() {
                 error: Error::IllFormed(IllFormedError::UnmatchedEndTag("t".into())),
                 position: 0,
             },
-            "`</t>` closes nothing, at byte 0",
+            "ill-formed document: close tag `</t>` does not match any open tag, at byte 0",
         ),
         (
             b"<t>ab\xFF",
@@ -639,7 +640,7 @@ fn errors_tell_what_the_reader_tells_and_the_text_as_it_stands() {
                 error: std::str::from_utf8(&b"ab\xFF"[..]).unwrap_err().into(),
                 position: 5,
             },
-            "bytes that are not UTF-8, at byte 5",
+            "cannot decode input using UTF-8: invalid utf-8 sequence of 1 bytes from index 2, at byte 5",
         ),
         (
             b"<t>\n  6:15\n</t>",

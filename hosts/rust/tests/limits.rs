@@ -1,12 +1,16 @@
 //! The limits: the longest document, the most names, and slots that are too few.
 
-use sporebasket::{lent, Error, Event, Reader, LONGEST, MOST_NAMES};
+use sporebasket::errors::{Error, Refused};
+use sporebasket::events::Event;
+use sporebasket::ext::{ErrorExt, ReaderExt};
+use sporebasket::name::QName;
+use sporebasket::{lent, Reader, LONGEST, MOST_NAMES};
 
 #[test]
 fn the_longest_document_is_read() {
     let document = vec![b'a'; LONGEST];
     let mut reader = Reader::from_reader(&document);
-    assert_eq!(reader.read_event().map(|event| event.as_bytes().len()), Ok(LONGEST));
+    assert_eq!(reader.read_event().map(|event| event.len()), Ok(LONGEST));
     assert_eq!(reader.read_event(), Ok(Event::Eof));
     assert_eq!(reader.buffer_position(), LONGEST as u64);
 }
@@ -17,7 +21,10 @@ fn a_byte_more_is_refused_by_every_call() {
     let mut reader = Reader::from_reader(&document);
     for _ in 0..3 {
         let error = reader.read_event().unwrap_err();
-        assert_eq!((&error, error.number()), (&Error::SliceTooLong, 16));
+        assert_eq!(
+            (&error, error.number()),
+            (&Error::Refused(Refused::SliceTooLong), Some(16))
+        );
         assert_eq!((reader.error_position(), reader.buffer_position()), (0, 0));
         assert_eq!((reader.piece(), reader.depth()), (0..0, 0));
         reader.config_mut().trim_text(true);
@@ -45,19 +52,19 @@ fn a_state_over_a_byte_more_is_refused() {
 }
 
 /// Opens names, one in the other, and sees that they are.
-fn open(reader: &mut Reader, names: usize) {
+fn open(reader: &mut Reader<&[u8]>, names: usize) {
     for opened in 1..=names {
         assert!(matches!(reader.read_event(), Ok(Event::Start(_))));
         assert_eq!(reader.depth(), opened);
     }
     assert_eq!(reader.open_names().len(), names);
-    assert!(reader.open_names().all(|name| name == b"a"));
+    assert!(reader.open_names().all(|name| name == QName("a")));
 }
 
 /// The name after so many is refused.
-fn full(reader: &mut Reader, names: usize) {
+fn full(reader: &mut Reader<&[u8]>, names: usize) {
     open(reader, names);
-    assert_eq!(reader.read_event(), Err(Error::NameStackFull));
+    assert_eq!(reader.read_event(), Err(Error::Refused(Refused::NameStackFull)));
     assert_eq!(reader.error_position(), 3 * names as u64);
     assert_eq!(reader.read_event(), Ok(Event::Eof));
     assert_eq!(reader.open_names().len(), names);

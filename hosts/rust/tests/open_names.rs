@@ -2,7 +2,11 @@
 
 mod common;
 
-use sporebasket::{lent, Error, Event, IllFormedError, Phase, Reader};
+use sporebasket::errors::{Error, Refused};
+use sporebasket::events::Event;
+use sporebasket::ext::{ErrorExt, Phase, ReaderExt};
+use sporebasket::name::QName;
+use sporebasket::{lent, Reader};
 
 /// A document, the letters of its settings, and the answers up to end of file.
 type Row = (&'static [u8], &'static str, &'static [&'static str]);
@@ -259,7 +263,7 @@ fn it_does_not_come_after_a_refusal_that_ended_the_run() {
             let mut reader = Reader::with_capacity(document, 1);
             reader.config_mut().check_open_names = !late;
             assert!(matches!(reader.read_event(), Ok(Event::Start(_))));
-            assert_eq!(reader.read_event().unwrap_err().number(), number);
+            assert_eq!(reader.read_event().unwrap_err().number(), Some(number));
             reader.config_mut().check_open_names = true;
             for _ in 0..3 {
                 assert_eq!(reader.read_event(), Ok(Event::Eof), "{number}");
@@ -278,15 +282,15 @@ fn the_error_tells_the_latest_open_name_and_takes_none_away() {
         assert!(reader.read_event().is_ok());
     }
     let error = reader.read_event().unwrap_err();
-    assert_eq!(error, IllFormedError::UnclosedElements("zürich".into()).into());
-    assert_eq!(error.number(), 18);
+    assert_eq!(error, Refused::UnclosedElements("zürich".into()).into());
+    assert_eq!(error.number(), Some(18));
     assert_eq!(error.to_string(), "the document ends while `<zürich>` is open");
     assert_eq!(reader.error_position(), 4);
     assert_eq!(reader.piece(), document.len()..document.len());
     assert_eq!(reader.buffer_position(), document.len() as u64);
     assert_eq!((reader.expected(), reader.found()), (None, None));
     assert_eq!((reader.depth(), reader.phase()), (2, Phase::Done));
-    assert!(reader.open_names().eq(["t".as_bytes(), "zürich".as_bytes()]));
+    assert!(reader.open_names().eq([QName("t"), QName("zürich")]));
     assert_eq!(reader.read_event(), Ok(Event::Eof));
     assert_eq!((reader.error_position(), reader.depth()), (4, 2));
 }
@@ -308,7 +312,7 @@ fn the_name_is_the_latest_however_many_are_open() {
             assert_eq!(reader.error_position(), 0);
             assert_eq!(
                 reader.read_event(),
-                Err(Error::IllFormed(IllFormedError::UnclosedElements(latest.clone())))
+                Err(Error::Refused(Refused::UnclosedElements(latest.clone())))
             );
             assert_eq!(reader.error_position() as usize, end - 1 - latest.len());
             assert_eq!(reader.open_names().len(), names);
@@ -361,9 +365,9 @@ fn a_clone_has_a_mark_of_its_own() {
     reader.config_mut().check_open_names = true;
     assert!(reader.read_event().is_ok());
     let mut before = reader.clone();
-    assert_eq!(reader.read_event().unwrap_err().number(), 18);
+    assert_eq!(reader.read_event().unwrap_err().number(), Some(18));
     let mut after = reader.clone();
-    assert_eq!(before.read_event().unwrap_err().number(), 18);
+    assert_eq!(before.read_event().unwrap_err().number(), Some(18));
     for reader in [&mut reader, &mut before, &mut after] {
         assert_eq!(reader.read_event(), Ok(Event::Eof));
     }

@@ -4,7 +4,9 @@
 mod common;
 
 use common::{told, PHASES};
-use sporebasket::{lent, Config, Reader};
+use sporebasket::ext::ReaderExt;
+use sporebasket::lent;
+use sporebasket::reader::{Config, Reader};
 use std::fs;
 
 const RECORDED: &str = concat!(env!("CARGO_MANIFEST_DIR"), "/../../crates/cases/stdout");

@@ -4,7 +4,9 @@
 mod common;
 
 use common::{Numbers, PHASES};
-use sporebasket::{lent, Error, Reader, LONGEST, MOST_NAMES};
+use sporebasket::errors::{Error, Refused};
+use sporebasket::ext::ReaderExt;
+use sporebasket::{lent, Reader, LONGEST, MOST_NAMES};
 
 /// The archive's memory, lent whole.
 #[derive(Clone)]
@@ -41,7 +43,7 @@ impl<'a> Beside<'a> {
 
 /// A reader, and the archive beside it.
 #[derive(Clone)]
-struct Both<'a>(Reader<'a>, Beside<'a>);
+struct Both<'a>(Reader<&'a [u8]>, Beside<'a>);
 
 impl<'a> Both<'a> {
     fn new(document: &'a [u8], names: usize) -> Self {
@@ -224,8 +226,8 @@ fn a_reader_that_was_not_made_never_is() {
     let mut reader = Reader::with_capacity(&document, 1);
     for _ in 0..3 {
         reader.config_mut().check_end_names = false;
-        assert_eq!(reader.clone().read_event(), Err(Error::SliceTooLong));
-        assert_eq!(reader.read_event(), Err(Error::SliceTooLong));
+        assert_eq!(reader.clone().read_event(), Err(Error::Refused(Refused::SliceTooLong)));
+        assert_eq!(reader.read_event(), Err(Error::Refused(Refused::SliceTooLong)));
         assert_eq!(common::state(&reader), "init 0 0");
         assert_eq!((reader.piece(), reader.error_position()), (0..0, 0));
         assert_eq!((reader.expected(), reader.found()), (None, None));

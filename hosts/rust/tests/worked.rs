@@ -2,6 +2,7 @@
 
 mod common;
 
+use sporebasket::ext::ReaderExt;
 use sporebasket::Reader;
 
 struct Row {

@@ -1,7 +1,8 @@
 //! The Rust package `hosts/rust`, as a user has it: a reader for each document.
 
 use super::{kind, Runner, Settings, Tally};
-use sporebasket::{Event, Reader};
+use sporebasket::events::Event;
+use sporebasket::Reader;
 
 pub struct Package;
 
@@ -28,7 +29,7 @@ impl Runner for Package {
                 Ok(Event::CData(e)) => tally.event(kind::CDATA, e.len()),
                 Ok(Event::Decl(e)) => tally.event(kind::DECL, e.len()),
                 Ok(Event::PI(e)) => tally.event(kind::PI, e.len()),
-                Ok(Event::Eof) => return tally,
+                Ok(Event::DocType(_)) | Ok(Event::Eof) => return tally,
                 Err(_) => tally.refusal(document),
             }
         }

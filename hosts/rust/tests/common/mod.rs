@@ -2,7 +2,9 @@
 //! depth and the open names after it.
 #![allow(dead_code)]
 
-use sporebasket::{Config, Event, Phase, Reader};
+use sporebasket::events::Event;
+use sporebasket::ext::{ErrorExt, EventExt, Phase, ReaderExt};
+use sporebasket::reader::{Config, Reader};
 use std::ops::Range;
 
 pub const PHASES: [&str; 6] = ["init", "text", "markup", "ref", "empty", "done"];
@@ -21,7 +23,19 @@ pub fn word(event: &Event) -> &'static str {
         Event::CData(_) => "cdata",
         Event::Decl(_) => "decl",
         Event::PI(_) => "pi",
+        Event::DocType(_) => "doctype",
         Event::Eof => "eof",
+    }
+}
+
+/// How many bytes of its content are an event's name.
+fn name_len(event: &Event) -> usize {
+    match event {
+        Event::Start(tag) | Event::Empty(tag) => tag.name().as_ref().len(),
+        Event::End(tag) => tag.name().as_ref().len(),
+        Event::Decl(declaration) => declaration.find([' ', '\t', '\n', '\r']).unwrap_or(declaration.len()),
+        Event::PI(instruction) => instruction.target().len(),
+        _ => 0,
     }
 }
 
@@ -30,27 +44,26 @@ fn spanned(range: Range<usize>) -> String {
 }
 
 /// The next answer.
-pub fn answer(reader: &mut Reader) -> String {
+pub fn answer(reader: &mut Reader<&[u8]>) -> String {
     match reader.read_event() {
         Ok(event) => {
             let piece = reader.piece();
-            let (content, name) = match event.part() {
-                Some(part) => {
-                    assert_eq!(part.piece(), piece);
-                    assert_eq!(part.as_bytes(), &reader.document()[part.content()]);
-                    assert!(part.as_str().is_ok());
-                    (part.content(), part.name_len())
+            let content = match event.place() {
+                Some(place) => {
+                    assert_eq!(place.piece, piece);
+                    assert_eq!(event.as_bytes(), &reader.document()[place.content.clone()]);
+                    place.content
                 }
-                None => (piece.start..piece.start, 0),
+                None => piece.start..piece.start,
             };
-            let said = word(&event);
+            let (said, name) = (word(&event), name_len(&event));
             format!(
                 "{said} {} {} {} {} {name}",
                 piece.start, piece.end, content.start, content.end
             )
         }
         Err(error) => {
-            let mut said = format!("refused {} {}", error.number(), reader.error_position());
+            let mut said = format!("refused {} {}", error.number().unwrap(), reader.error_position());
             said += &format!(" piece {}", spanned(reader.piece()));
             if let Some(expected) = reader.expected() {
                 said += &format!(" expected {}", spanned(expected));
@@ -89,7 +102,7 @@ pub fn place(document: &[u8], part: &[u8]) -> Range<usize> {
 }
 
 /// The state: the phase, the position, the depth and the open names.
-pub fn state(reader: &Reader) -> String {
+pub fn state(reader: &Reader<&[u8]>) -> String {
     let phase = match reader.phase() {
         Phase::Init => "init",
         Phase::InsideText => "text",
@@ -101,13 +114,13 @@ pub fn state(reader: &Reader) -> String {
     };
     let mut said = format!("{phase} {} {}", reader.buffer_position(), reader.depth());
     for name in reader.open_names() {
-        said += &format!(" {}", spanned(place(reader.document(), name)));
+        said += &format!(" {}", spanned(place(reader.document(), name.0.as_bytes())));
     }
     said
 }
 
 /// The answers up to end of file, each with the state after it.
-pub fn run(reader: &mut Reader) -> Vec<String> {
+pub fn run(reader: &mut Reader<&[u8]>) -> Vec<String> {
     let mut said = Vec::new();
     for _ in 0..reader.document().len() + 2 {
         let answer = answer(reader);

@@ -1,0 +1,258 @@
+//! What this reader tells beyond quick-xml. These are traits, so that a name counts only where its trait is imported: code written for quick-xml, with
+//! methods of its own under the same names, keeps its meaning.
+//!
+//! ```
+//! use sporebasket::ext::{ErrorExt, EventExt, ReaderExt};
+//! use sporebasket::name::QName;
+//! use sporebasket::Reader;
+//!
+//! let mut reader = Reader::from_str("<t>06:15</r>");
+//! assert_eq!(reader.read_event()?.place().map(|place| place.content), Some(1..2));
+//! assert!(reader.open_names().eq([QName("t")]));
+//! reader.read_event()?;
+//! assert_eq!(reader.read_event().unwrap_err().number(), Some(10));
+//! assert_eq!(reader.piece(), 8..12);
+//! # Ok::<(), sporebasket::Error>(())
+//! ```
+
+use crate::errors::{Error, IllFormedError, Refused, SyntaxError};
+use crate::name::QName;
+use std::ops::Range;
+
+/// What a [`Reader`](crate::Reader) tells beyond quick-xml's.
+pub trait ReaderExt<'a>: Sized {
+    /// A reader in which at most so many names may be open, and never more than [`MOST_NAMES`](crate::MOST_NAMES): a name more is refused
+    /// ([`NameStackFull`](Refused::NameStackFull)). The bound is fixed. The room is taken as names open, and ends at 16 bytes for each name
+    /// that is asked for.
+    ///
+    /// ```
+    /// use sporebasket::errors::{Error, Refused};
+    /// use sporebasket::ext::ReaderExt;
+    /// use sporebasket::Reader;
+    ///
+    /// let mut reader = Reader::with_capacity(b"<a><b>", 1);
+    /// assert!(reader.read_event().is_ok());
+    /// assert_eq!(reader.read_event(), Err(Error::Refused(Refused::NameStackFull)));
+    /// ```
+    fn with_capacity(document: &'a [u8], names: usize) -> Self;
+
+    /// The piece of the last answer, be it an event or a refusal; 0..0 if there was none.
+    ///
+    /// ```
+    /// use sporebasket::ext::ReaderExt;
+    ///
+    /// let mut reader = sporebasket::Reader::from_str("<a></b>");
+    /// reader.read_event()?;
+    /// assert!(reader.read_event().is_err());
+    /// assert_eq!(reader.piece(), 3..7);
+    /// # Ok::<(), sporebasket::Error>(())
+    /// ```
+    fn piece(&self) -> Range<usize>;
+
+    /// Where the open name stands that a closing tag was refused for, if the last answer was such a refusal (10).
+    ///
+    /// ```
+    /// use sporebasket::ext::ReaderExt;
+    ///
+    /// let mut reader = sporebasket::Reader::from_str("<a></b>");
+    /// reader.read_event()?;
+    /// assert_eq!(reader.expected(), None);
+    /// assert!(reader.read_event().is_err());
+    /// assert_eq!(reader.expected(), Some(1..2));
+    /// # Ok::<(), sporebasket::Error>(())
+    /// ```
+    fn expected(&self) -> Option<Range<usize>>;
+
+    /// Where the name of a closing tag stands that was refused, if the last answer was such a refusal (10 or 11).
+    ///
+    /// ```
+    /// use sporebasket::ext::ReaderExt;
+    ///
+    /// let mut reader = sporebasket::Reader::from_str("</a>");
+    /// assert!(reader.read_event().is_err());
+    /// assert_eq!(reader.found(), Some(2..3));
+    /// ```
+    fn found(&self) -> Option<Range<usize>>;
+
+    /// How many names are open.
+    ///
+    /// ```
+    /// use sporebasket::ext::ReaderExt;
+    ///
+    /// let mut reader = sporebasket::Reader::from_str("<a>");
+    /// reader.read_event()?;
+    /// assert_eq!(reader.depth(), 1);
+    /// # Ok::<(), sporebasket::Error>(())
+    /// ```
+    fn depth(&self) -> usize;
+
+    /// The open names, the outermost first.
+    ///
+    /// ```
+    /// use sporebasket::ext::ReaderExt;
+    /// use sporebasket::name::QName;
+    ///
+    /// let mut reader = sporebasket::Reader::from_str("<a><b c='d'>");
+    /// reader.read_event()?;
+    /// reader.read_event()?;
+    /// assert!(reader.open_names().eq([QName("a"), QName("b")]));
+    /// assert_eq!(reader.open_names().last(), Some(QName("b")));
+    /// # Ok::<(), sporebasket::Error>(())
+    /// ```
+    fn open_names(&self) -> impl DoubleEndedIterator<Item = QName<'a>> + ExactSizeIterator + '_;
+
+    /// What the reader does next.
+    ///
+    /// ```
+    /// use sporebasket::ext::{Phase, ReaderExt};
+    ///
+    /// let mut reader = sporebasket::Reader::from_str("<!x>");
+    /// assert!(reader.read_event().is_err());
+    /// assert_eq!(reader.phase(), Phase::Done);
+    /// ```
+    fn phase(&self) -> Phase;
+
+    /// The document, whole.
+    ///
+    /// ```
+    /// use sporebasket::ext::ReaderExt;
+    ///
+    /// assert_eq!(sporebasket::Reader::from_str("<a>").document(), b"<a>");
+    /// ```
+    fn document(&self) -> &'a [u8];
+}
+
+/// What a reader does next.
+///
+/// ```
+/// use sporebasket::ext::{Phase, ReaderExt};
+///
+/// let mut reader = sporebasket::Reader::from_str("a<b/>");
+/// assert_eq!(reader.phase(), Phase::Init);
+/// reader.read_event()?;
+/// assert_eq!(reader.phase(), Phase::InsideMarkup);
+/// # Ok::<(), sporebasket::Error>(())
+/// ```
+#[derive(Clone, Copy, Debug, PartialEq, Eq, Hash)]
+#[non_exhaustive]
+pub enum Phase {
+    /// It has not begun.
+    Init,
+    /// It goes on with text.
+    InsideText,
+    /// It stands at a `<`.
+    InsideMarkup,
+    /// It stands at an `&`.
+    InsideRef,
+    /// It owes the End of an expanded empty element.
+    InsideEmpty,
+    /// It gives only [`Eof`](crate::events::Event::Eof), or before it, once, [`UnclosedElements`](Refused::UnclosedElements).
+    Done,
+}
+
+impl Phase {
+    pub(crate) fn numbered(number: usize) -> Self {
+        match number {
+            0 => Phase::Init,
+            1 => Phase::InsideText,
+            2 => Phase::InsideMarkup,
+            3 => Phase::InsideRef,
+            4 => Phase::InsideEmpty,
+            _ => Phase::Done,
+        }
+    }
+}
+
+/// What an [`Event`](crate::events::Event) and its part tell beyond quick-xml's.
+pub trait EventExt {
+    /// Where the reader found it in the document; none for [`Eof`](crate::events::Event::Eof), and for what a user has made or changed.
+    ///
+    /// ```
+    /// use sporebasket::events::BytesText;
+    /// use sporebasket::ext::EventExt;
+    /// use sporebasket::Reader;
+    ///
+    /// let document = "a&b;c";
+    /// let mut reader = Reader::from_str(document);
+    /// reader.read_event()?;
+    /// let place = reader.read_event()?.place().unwrap();
+    /// assert_eq!((&document[place.piece], &document[place.content]), ("&b;", "b"));
+    /// assert_eq!(BytesText::new("c").place(), None);
+    /// # Ok::<(), sporebasket::Error>(())
+    /// ```
+    fn place(&self) -> Option<Place>;
+}
+
+/// Where an event stands in the document.
+#[derive(Clone, Debug, PartialEq, Eq, Hash)]
+#[non_exhaustive]
+pub struct Place {
+    /// The whole piece, with its marks.
+    pub piece: Range<usize>,
+    /// The content. Of the End of an expanded `<a/>` it is the name in that tag.
+    ///
+    /// ```
+    /// use sporebasket::ext::EventExt;
+    ///
+    /// let mut reader = sporebasket::Reader::from_str("<a/>");
+    /// reader.config_mut().expand_empty_elements = true;
+    /// reader.read_event()?;
+    /// let place = reader.read_event()?.place().unwrap();
+    /// assert_eq!((place.piece, place.content), (4..4, 1..2));
+    /// # Ok::<(), sporebasket::Error>(())
+    /// ```
+    pub content: Range<usize>,
+}
+
+/// What an [`Error`] tells beyond quick-xml's.
+pub trait ErrorExt {
+    /// The number of the refusal, 1 to 18; none for an error that no call of [`read_event`](crate::Reader::read_event) gives.
+    ///
+    /// ```
+    /// use sporebasket::errors::{Error, IllFormedError};
+    /// use sporebasket::ext::ErrorExt;
+    /// use sporebasket::Reader;
+    ///
+    /// let mut reader = Reader::from_str("<!doctype x>");
+    /// assert_eq!(reader.read_event().unwrap_err().number(), Some(14));
+    /// assert_eq!(Error::from(IllFormedError::MissingEndTag("t".into())).number(), None);
+    /// ```
+    fn number(&self) -> Option<u8>;
+}
+
+impl ErrorExt for Error {
+    fn number(&self) -> Option<u8> {
+        Some(match self {
+            Error::Syntax(error) => match error {
+                SyntaxError::UnclosedTag => 1,
+                SyntaxError::UnclosedSingleQuotedAttributeValue => 2,
+                SyntaxError::UnclosedDoubleQuotedAttributeValue => 3,
+                SyntaxError::UnclosedComment => 4,
+                SyntaxError::UnclosedCData => 5,
+                SyntaxError::UnclosedPI => 6,
+                SyntaxError::UnclosedXmlDecl => 7,
+                SyntaxError::InvalidBangMarkup => 8,
+                SyntaxError::UnclosedDoctype => return None,
+            },
+            Error::IllFormed(error) => match error {
+                IllFormedError::DoubleHyphenInComment => 9,
+                IllFormedError::MismatchedEndTag { .. } => 10,
+                IllFormedError::UnmatchedEndTag(_) => 11,
+                IllFormedError::UnclosedReference => 12,
+                IllFormedError::MissingDeclVersion(_)
+                | IllFormedError::UnknownVersion
+                | IllFormedError::MissingDoctypeName
+                | IllFormedError::MissingEndTag(_) => return None,
+            },
+            Error::Encoding(_) => 13,
+            Error::Refused(error) => match error {
+                Refused::DocType => 14,
+                Refused::NameStackFull => 15,
+                Refused::SliceTooLong => 16,
+                Refused::BadState => 17,
+                Refused::UnclosedElements(_) => 18,
+            },
+            Error::Io(_) | Error::InvalidAttr(_) | Error::Escape(_) | Error::Namespace(_) => return None,
+        })
+    }
+}
