@@ -16,7 +16,8 @@ mod worst;
 
 use runners::archive::{Archive, Linked};
 use runners::shared::Shared;
-use runners::{package::Package, quick_xml::QuickXml, Runner};
+use runners::slices::{Package, QuickXml};
+use runners::Runner;
 use std::path::{Path, PathBuf};
 use std::process::ExitCode;
 use std::{env, fs};

@@ -14,7 +14,7 @@ use std::fmt;
 /// assert!(settings.check_end_names && settings.trim_markup_names_in_closing_tags);
 /// assert!(!settings.check_comments && !settings.expand_empty_elements && !settings.check_open_names);
 /// ```
-#[derive(Clone, Copy, PartialEq, Eq, Hash)]
+#[derive(Clone, PartialEq, Eq)]
 #[non_exhaustive]
 pub struct Config {
     /// An `&` without its `;` is text. Off, it is [`UnclosedReference`](crate::errors::IllFormedError::UnclosedReference). Off by default.
@@ -179,7 +179,7 @@ impl Config {
     }
 
     /// The settings as one number, a bit each.
-    pub(crate) fn bits(self) -> usize {
+    pub(crate) fn bits(&self) -> usize {
         usize::from(self.allow_dangling_amp)
             | usize::from(self.allow_unmatched_ends) << 1
             | usize::from(self.check_comments) << 2

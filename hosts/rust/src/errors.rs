@@ -75,7 +75,8 @@ pub enum Refused {
     NameStackFull,
     /// 16: the document has more bytes than [`LONGEST`]. Every call gives it.
     SliceTooLong,
-    /// 17: the archive was lent a state that cannot be read on from. A [`Reader`](crate::Reader) keeps its own state and never gives it.
+    /// 17: the numbers lent as a state cannot be read on from, or there are too few slots; [`lent::read_event`](crate::lent::read_event) has the rule. A
+    /// [`Reader`](crate::Reader) keeps its own state and never gives it.
     BadState,
     /// 18: the document ends while names are open, of which this is the latest, where
     /// [`check_open_names`](crate::reader::Config::check_open_names) is on. Its place is the first byte of that name. They stay open:

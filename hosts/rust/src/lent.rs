@@ -41,7 +41,7 @@ pub fn default_settings() -> usize {
 /// Makes a reader over the document, in the first [`STATE_SLOTS`] slots of the state. Bits of the settings that stand for none do not count, and
 /// the mark is off.
 ///
-/// 16: the document is too long; 17: the state has too few slots. Then nothing is written.
+/// 17: the state has fewer than [`STATE_SLOTS`] slots; else 16: the document is too long. Then nothing is written.
 ///
 /// ```
 /// use sporebasket::lent;
@@ -64,8 +64,15 @@ pub fn new(document: &[u8], settings: usize, state: &mut [usize]) -> usize {
 
 /// Reads on, and writes the answer, the state after it and, for a Start, its name on the stack.
 ///
-/// Lend each call the same document, and the stack and the state as the call before left them. 17: the state is none that a reader
-/// over this document and stack comes to, or there are too few slots.
+/// Lend each call the same document, and the stack and the state as the call before left them.
+///
+/// 17, before all else, exactly where one of these is so: the answer has fewer than [`ANSWER_SLOTS`] slots (then it is not written either) or the state
+/// fewer than [`STATE_SLOTS`]; the phase is above 5 or the settings above 511; the length is not the document's or above
+/// [`LONGEST`](crate::LONGEST); the position is above the length; the depth is above [`MOST_NAMES`](crate::MOST_NAMES) or half the stack's slots; a name is
+/// open, and the start of the latest is above its end, or its end above the position; the phase is `Init` with a position or depth that is not 0,
+/// `InsideMarkup` where no `<` is at the position, `InsideRef` where no `&` is there, or `InsideEmpty` with the depth 0. It leaves the stack and the state
+/// alone, so it comes again for ever. A state that passes need not be one that calls lead to: of the names the latest alone is looked at, of the document the
+/// byte at the position.
 ///
 /// A call opens one name at most. So a stack may be short at first, and where it is full a longer one be lent before the next call, with what
 /// the short one held in its first slots: every answer is then as if the longest had been lent from the start. More slots than

@@ -203,9 +203,13 @@ impl<'a> Reader<&'a [u8]> {
         if self.state[state::DEPTH] == self.pause {
             self.prepare();
         }
+        let done = self.state[state::PHASE] == DONE;
         match lent::read_piece(self.document, &mut self.stack, &mut self.state, &mut self.answer) {
             Ok(piece) => {
-                self.rest = self.from_place(self.state[state::POSITION]);
+                // of a run that is over, what was not read stays so
+                if !done {
+                    self.rest = self.rest_at(self.state[state::POSITION]);
+                }
                 Ok(self.event(piece))
             }
             Err(number) => Err(self.refused(number)),
@@ -330,12 +334,12 @@ impl<'a> Reader<&'a [u8]> {
             Some(text) => Cow::Borrowed(text),
             None => Cow::Owned(owned(self.bytes(answer::CONTENT))),
         };
-        let at = At::new(self.span(answer::PIECE), from);
-        Event::of_kind(
-            self.answer[answer::KIND],
-            Content { text, at },
-            self.answer[answer::NAME],
-        )
+        let content = Content {
+            text,
+            name_len: self.answer[answer::NAME],
+            at: At::new(self.span(answer::PIECE), from),
+        };
+        Event::of_kind(self.answer[answer::KIND], content)
     }
 
     /// The bytes of a span of the last answer. It lies in the document.
@@ -354,7 +358,7 @@ impl<'a> Reader<&'a [u8]> {
 
     /// The document from a place on.
     #[inline]
-    fn from_place(&self, place: usize) -> &'a [u8] {
+    fn rest_at(&self, place: usize) -> &'a [u8] {
         self.document.get(place..).unwrap_or_default()
     }
 
@@ -379,7 +383,7 @@ impl<'a> Reader<&'a [u8]> {
     fn refused(&mut self, number: usize) -> Error {
         self.error_position = self.answer[answer::PLACE];
         let piece = self.bytes(answer::PIECE);
-        self.rest = self.from_place(if is_read(number, piece) {
+        self.rest = self.rest_at(if is_read(number, piece) {
             self.state[state::POSITION]
         } else {
             self.answer[answer::PIECE]
@@ -462,6 +466,9 @@ impl<'a> ReaderExt<'a> for Reader<&'a [u8]> {
 
 /// How many names a reader has room for at its first call, if it may have as many.
 const FIRST_NAMES: usize = 32;
+
+/// The phase of a run that is over.
+const DONE: usize = 5;
 
 /// The refusals of markup whose end may have been found, and the last of those that may be of markup whose end was not.
 const UNCLOSED_COMMENT: usize = 4;

@@ -14,7 +14,7 @@ use std::thread;
 #[test]
 fn settings_change_between_calls() {
     let mut reader = Reader::from_str("<a/> x <a/> x <b></c>");
-    let config = *reader.config();
+    let config = reader.config().clone();
     assert_eq!(common::answer(&mut reader), "empty 0 4 1 2 1");
     reader.config_mut().trim_text(true);
     assert_eq!(common::answer(&mut reader), "text 5 7 5 6 0");

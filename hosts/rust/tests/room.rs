@@ -172,7 +172,7 @@ fn settings_that_are_asked_for_and_left() {
     let mut both = Both::new(b"<a> </a> <a/>", MOST_NAMES);
     common::set(both.0.config_mut(), "sx");
     for _ in 0..6 {
-        let config = *both.0.config_mut();
+        let config = both.0.config_mut().clone();
         assert_eq!(*both.0.config(), config);
         both.answer();
         both.hold_the_same_state();

@@ -5,9 +5,8 @@ pub mod archive;
 pub mod expat;
 #[cfg(feature = "libxml2")]
 pub mod libxml2;
-pub mod package;
-pub mod quick_xml;
 pub mod shared;
+pub mod slices;
 
 /// The settings that a run departs from the default ones by.
 #[derive(Clone, Copy, Default, PartialEq, Eq)]

@@ -27,6 +27,7 @@ use std::ops::Deref;
 /// assert_eq!(reader.read_event()?, Event::Eof);
 /// # Ok::<(), sporebasket::Error>(())
 /// ```
+// In the order of the kinds' numbers, and all of one form, so that an event is made of an answer without a branch.
 #[derive(Clone, Debug, PartialEq, Eq)]
 pub enum Event<'a> {
     /// An opening tag, `<a b="c">`.
@@ -37,20 +38,20 @@ pub enum Event<'a> {
     Empty(BytesStart<'a>),
     /// Text between markup and references, as it stands.
     Text(BytesText<'a>),
-    /// A CDATA section, `<![CDATA[a]]>`.
-    CData(BytesCData<'a>),
+    /// A reference, `&amp;` or `&#39;`. It is not resolved.
+    GeneralRef(BytesRef<'a>),
     /// A comment, `<!--a-->`.
     Comment(BytesText<'a>),
+    /// A CDATA section, `<![CDATA[a]]>`.
+    CData(BytesCData<'a>),
     /// An XML declaration, `<?xml version="1.0"?>`.
     Decl(BytesDecl<'a>),
     /// Any other processing instruction, `<?a b?>`.
     PI(BytesPI<'a>),
-    /// A document type. The reader refuses it (14) and never gives this; it is there for code that has an arm for it.
-    DocType(BytesText<'a>),
-    /// A reference, `&amp;` or `&#39;`. It is not resolved.
-    GeneralRef(BytesRef<'a>),
     /// The end of the document, or of a run that a refusal ended. Every later call gives it again.
     Eof,
+    /// A document type. The reader refuses it (14) and never gives this; it is there for code that has an arm for it.
+    DocType(BytesText<'a>),
 }
 
 /// Does the same to the part of an event, whatever its kind; something else at the end of the document.
@@ -94,18 +95,21 @@ macro_rules! with {
 impl<'a> Event<'a> {
     /// The event of this kind; 10 is the last.
     #[inline]
-    pub(crate) fn of_kind(kind: usize, text: Content<'a>, name_len: usize) -> Self {
-        let tag = |buf: Content<'a>| BytesStart { buf, name_len };
+    pub(crate) fn of_kind(kind: usize, content: Content<'a>) -> Self {
         match kind {
-            1 => Event::Start(tag(text)),
-            2 => Event::End(BytesEnd(text)),
-            3 => Event::Empty(tag(text)),
-            4 => Event::Text(BytesText(text)),
-            5 => Event::GeneralRef(BytesRef(text)),
-            6 => Event::Comment(BytesText(text)),
-            7 => Event::CData(BytesCData(text)),
-            8 => Event::Decl(BytesDecl { content: tag(text) }),
-            9 => Event::PI(BytesPI { content: tag(text) }),
+            1 => Event::Start(BytesStart(content)),
+            2 => Event::End(BytesEnd(content)),
+            3 => Event::Empty(BytesStart(content)),
+            4 => Event::Text(BytesText(content)),
+            5 => Event::GeneralRef(BytesRef(content)),
+            6 => Event::Comment(BytesText(content)),
+            7 => Event::CData(BytesCData(content)),
+            8 => Event::Decl(BytesDecl {
+                content: BytesStart(content),
+            }),
+            9 => Event::PI(BytesPI {
+                content: BytesStart(content),
+            }),
             _ => Event::Eof,
         }
     }
@@ -188,10 +192,11 @@ impl At {
     }
 }
 
-/// Text of an event, and where it stands. Two are equal if the texts are.
+/// Text of an event, how many bytes of it are a tag's name, and where it stands. Two are equal if the texts are.
 #[derive(Clone)]
 pub(crate) struct Content<'a> {
     pub(crate) text: Cow<'a, str>,
+    pub(crate) name_len: usize,
     pub(crate) at: At,
 }
 
@@ -200,6 +205,7 @@ impl<'a> Content<'a> {
     fn made(text: impl Into<Cow<'a, str>>) -> Self {
         Content {
             text: text.into(),
+            name_len: 0,
             at: At::NOWHERE,
         }
     }
@@ -207,14 +213,14 @@ impl<'a> Content<'a> {
     fn into_owned(self) -> Content<'static> {
         Content {
             text: Cow::Owned(self.text.into_owned()),
-            at: self.at,
+            ..self
         }
     }
 
     fn borrow(&self) -> Content<'_> {
         Content {
             text: Cow::Borrowed(&self.text),
-            at: self.at,
+            ..*self
         }
     }
 
@@ -348,11 +354,8 @@ macro_rules! like_a_tag {
 /// assert_eq!(tag.name().as_ref(), "r");
 /// # Ok::<(), sporebasket::Error>(())
 /// ```
-#[derive(Clone, PartialEq, Eq)]
-pub struct BytesStart<'a> {
-    buf: Content<'a>,
-    name_len: usize,
-}
+#[derive(Clone)]
+pub struct BytesStart<'a>(Content<'a>);
 
 impl<'a> BytesStart<'a> {
     /// A tag that is its name alone.
@@ -364,9 +367,9 @@ impl<'a> BytesStart<'a> {
     /// ```
     #[inline]
     pub fn new<C: Into<Cow<'a, str>>>(name: C) -> Self {
-        let buf = Content::made(name);
-        let name_len = buf.text.len();
-        BytesStart { buf, name_len }
+        let name = name.into();
+        let name_len = name.len();
+        BytesStart::from_content(name, name_len)
     }
 
     /// A tag of this content, of which so many bytes are the name.
@@ -378,18 +381,15 @@ impl<'a> BytesStart<'a> {
     /// ```
     #[inline]
     pub fn from_content<C: Into<Cow<'a, str>>>(content: C, name_len: usize) -> Self {
-        BytesStart {
-            buf: Content::made(content),
+        BytesStart(Content {
             name_len,
-        }
+            ..Content::made(content)
+        })
     }
 
     /// The same with text of its own.
     pub fn into_owned(self) -> BytesStart<'static> {
-        BytesStart {
-            buf: self.buf.into_owned(),
-            name_len: self.name_len,
-        }
+        BytesStart(self.0.into_owned())
     }
 
     /// A copy with text of its own.
@@ -399,10 +399,7 @@ impl<'a> BytesStart<'a> {
 
     /// The same with its text borrowed from this one.
     pub fn borrow(&self) -> BytesStart<'_> {
-        BytesStart {
-            buf: self.buf.borrow(),
-            name_len: self.name_len,
-        }
+        BytesStart(self.0.borrow())
     }
 
     /// The closing tag for it.
@@ -428,7 +425,7 @@ impl<'a> BytesStart<'a> {
     /// ```
     #[inline]
     pub fn name(&self) -> QName<'_> {
-        QName(&self.buf.text[..self.name_len])
+        QName(&self.0.text[..self.0.name_len])
     }
 
     /// The name without its prefix.
@@ -447,8 +444,8 @@ impl<'a> BytesStart<'a> {
     /// assert_eq!(&*tag, "row n=\"1\"");
     /// ```
     pub fn set_name(&mut self, name: &str) -> &mut BytesStart<'a> {
-        let mut text = mem::take(&mut self.buf.text).into_owned();
-        text.replace_range(..self.name_len, name);
+        let mut text = mem::take(&mut self.0.text).into_owned();
+        text.replace_range(..self.0.name_len, name);
         *self = BytesStart::from_content(text, name.len());
         self
     }
@@ -462,8 +459,8 @@ impl<'a> BytesStart<'a> {
     /// assert_eq!(&**tag.clear_attributes(), "r");
     /// ```
     pub fn clear_attributes(&mut self) -> &mut BytesStart<'a> {
-        let mut text = mem::take(&mut self.buf.text).into_owned();
-        text.truncate(self.name_len);
+        let mut text = mem::take(&mut self.0.text).into_owned();
+        text.truncate(self.0.name_len);
         *self = BytesStart::new(text);
         self
     }
@@ -480,7 +477,7 @@ impl<'a> BytesStart<'a> {
     /// ```
     #[inline]
     pub fn attributes_raw(&self) -> &str {
-        &self.buf.text[self.name_len..]
+        &self.0.text[self.0.name_len..]
     }
 }
 
@@ -490,23 +487,31 @@ impl<'a> From<QName<'a>> for BytesStart<'a> {
     }
 }
 
+impl PartialEq for BytesStart<'_> {
+    fn eq(&self, other: &Self) -> bool {
+        self.0 == other.0 && self.0.name_len == other.0.name_len
+    }
+}
+
+impl Eq for BytesStart<'_> {}
+
 impl Deref for BytesStart<'_> {
     type Target = str;
 
     fn deref(&self) -> &str {
-        &self.buf.text
+        &self.0.text
     }
 }
 
 impl fmt::Debug for BytesStart<'_> {
     fn fmt(&self, f: &mut fmt::Formatter<'_>) -> fmt::Result {
-        write!(f, "BytesStart {{ buf: {:?}, name_len: {} }}", self.buf, self.name_len)
+        write!(f, "BytesStart {{ buf: {:?}, name_len: {} }}", self.0, self.0.name_len)
     }
 }
 
 impl EventExt for BytesStart<'_> {
     fn place(&self) -> Option<Place> {
-        self.buf.place()
+        self.0.place()
     }
 }
 
@@ -748,7 +753,7 @@ impl<'a> BytesPI<'a> {
     /// The text itself.
     #[inline]
     pub fn into_inner(self) -> Cow<'a, str> {
-        self.content.buf.text
+        self.content.0.text
     }
 
     /// The target: what stands before the first white space.
@@ -766,6 +771,6 @@ impl<'a> BytesPI<'a> {
 
 impl fmt::Debug for BytesPI<'_> {
     fn fmt(&self, f: &mut fmt::Formatter<'_>) -> fmt::Result {
-        write!(f, "BytesPI {{ content: {:?} }}", self.content.buf)
+        write!(f, "BytesPI {{ content: {:?} }}", self.content.0)
     }
 }
