@@ -9,7 +9,8 @@ use crate::runners::{Runner, Settings};
 use crate::worst::nesting;
 use sporebasket::events::Event;
 use sporebasket::ext::ReaderExt;
-use sporebasket::{lent, Reader, LONGEST, MOST_NAMES};
+use sporebasket::lent::{self, LONGEST, MOST_NAMES};
+use sporebasket::Reader;
 
 type Runners = [Box<dyn Runner>];
 

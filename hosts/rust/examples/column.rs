@@ -5,7 +5,7 @@
 
 mod input;
 
-use sporebasket::{read_column, Column};
+use sporebasket::column::{read_column, Column};
 use std::io::{self, Write};
 use std::{env, process};
 

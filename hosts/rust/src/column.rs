@@ -4,7 +4,7 @@
 //! the next day's heading.
 //!
 //! ```
-//! use sporebasket::{column, read_column};
+//! use sporebasket::column::{column, read_column};
 //!
 //! let document = b"<row><t>23:50</t></row><row><t> 24:10<!-- request stop --></t></row>";
 //! let times = column(document)?;
@@ -15,7 +15,7 @@
 //! // 24:10 was set as 00:10
 //! let set = read_column(b"<t>23:50</t><t>00:10</t>");
 //! assert_eq!(set.lower, Some(1));
-//! # Ok::<(), sporebasket::ColumnError>(())
+//! # Ok::<(), sporebasket::column::ColumnError>(())
 //! ```
 //!
 //! - Text is within `t` where the latest open name is `t`: that of `<t>06:15</t>`, not that of `<t><b>06:15</b></t>`.
@@ -42,14 +42,14 @@ pub use crate::time::{ParseTimeError, Time};
 /// Whether they are in order is not asked here: [`read_column`] tells it.
 ///
 /// ```
-/// use sporebasket::{column, Time};
+/// use sporebasket::column::{column, Time};
 ///
 /// assert_eq!(column(b"<t>06:15</t>")?, [Time::new(6, 15).unwrap()]);
 ///
 /// let error = column(b"<t>06:15</t><t>6:45</t>").unwrap_err();
 /// assert_eq!(error.to_string(), "\"6:45\" is not a time from 00:00 to 47:59, at byte 15");
 /// assert_eq!(error.times, [Time::new(6, 15).unwrap()]);
-/// # Ok::<(), sporebasket::ColumnError>(())
+/// # Ok::<(), sporebasket::column::ColumnError>(())
 /// ```
 pub fn column(document: &[u8]) -> Result<Vec<Time>, ColumnError> {
     let Column { times, refusal, .. } = read_column(document);
@@ -65,7 +65,7 @@ pub fn column(document: &[u8]) -> Result<Vec<Time>, ColumnError> {
 /// needed, and where it was too little the document is read once more, with more of it: all readings together pass over fewer than five times its bytes.
 ///
 /// ```
-/// use sporebasket::read_column;
+/// use sporebasket::column::read_column;
 ///
 /// let column = read_column(b"<t>23:35</t><t>23:50</t><t>00:10</t><t>24:25</t></r>");
 /// assert_eq!(column.times.len(), 4);
@@ -97,7 +97,7 @@ pub fn read_column(document: &[u8]) -> Column {
 /// What a document's column is.
 ///
 /// ```
-/// use sporebasket::read_column;
+/// use sporebasket::column::read_column;
 ///
 /// let column = read_column(b"<t>23:50</t><t>23:50</t><t>24:10</t>");
 /// assert_eq!((column.times.len(), column.lower, column.refusal), (3, None, None));
@@ -116,9 +116,8 @@ pub struct Column {
 /// What ends the reading of a column before the end of its document, and where.
 ///
 /// ```
-/// use sporebasket::column::Refusal;
+/// use sporebasket::column::{read_column, Refusal};
 /// use sporebasket::errors::{Error, SyntaxError};
-/// use sporebasket::read_column;
 ///
 /// let refusal = read_column(b"<t>6:15 h\n</t>").refusal;
 /// assert_eq!(refusal, Some(Refusal::BadTime { text: "6:15 h\n".into(), position: 3 }));
@@ -174,7 +173,7 @@ impl Refusal {
     /// The number of the refusal: the reader's, or 30.
     ///
     /// ```
-    /// let refusal = sporebasket::read_column(b"<t>noon</t>").refusal.unwrap();
+    /// let refusal = sporebasket::column::read_column(b"<t>noon</t>").refusal.unwrap();
     /// assert_eq!(refusal.number(), 30);
     /// ```
     pub fn number(&self) -> u8 {
@@ -187,7 +186,7 @@ impl Refusal {
     /// The place of the refusal, to be shown to a user. Of 30 it is where the text or the reference begins, white space included.
     ///
     /// ```
-    /// let refusal = sporebasket::read_column(b"<t> noon</t>").refusal.unwrap();
+    /// let refusal = sporebasket::column::read_column(b"<t> noon</t>").refusal.unwrap();
     /// assert_eq!(refusal.position(), 3);
     /// ```
     pub fn position(&self) -> u64 {
@@ -200,7 +199,8 @@ impl Refusal {
 /// Why a document's column was refused, and the times before that.
 ///
 /// ```
-/// use sporebasket::{column, Error};
+/// use sporebasket::column::column;
+/// use sporebasket::Error;
 /// use std::error::Error as _;
 ///
 /// let error = column(b"<t>06:15</t><t>06:45</r>").unwrap_err();
@@ -224,7 +224,7 @@ impl ColumnError {
     /// The number of the refusal: the reader's, or 30.
     ///
     /// ```
-    /// assert_eq!(sporebasket::column(b"<t>24:60</t>").unwrap_err().number(), 30);
+    /// assert_eq!(sporebasket::column::column(b"<t>24:60</t>").unwrap_err().number(), 30);
     /// ```
     pub fn number(&self) -> u8 {
         self.refusal.number()
@@ -233,7 +233,7 @@ impl ColumnError {
     /// The place of the refusal, to be shown to a user.
     ///
     /// ```
-    /// assert_eq!(sporebasket::column(b"<t>24:60</t>").unwrap_err().position(), 3);
+    /// assert_eq!(sporebasket::column::column(b"<t>24:60</t>").unwrap_err().position(), 3);
     /// ```
     pub fn position(&self) -> u64 {
         self.refusal.position()

@@ -14,7 +14,7 @@ use std::str::Utf8Error;
 /// use sporebasket::ext::ReaderExt;
 /// use sporebasket::{Error, Reader};
 ///
-/// let document = b"<a>ab\xFF";
+/// let document: &[u8] = b"<a>ab\xFF";
 /// let mut reader = Reader::from_reader(document);
 /// reader.read_event()?;
 /// match reader.read_event() {

@@ -43,7 +43,7 @@ pub enum Error {
     Io(Arc<io::Error>),
     /// The document leaves the grammar: 1 to 8. It ends the run.
     Syntax(SyntaxError),
-    /// The document is not well formed: 9 to 12. Reading goes on behind the piece.
+    /// The document is not well formed: 9 to 12, after which reading goes on behind the piece; or the end of an element was not found.
     IllFormed(IllFormedError),
     /// An attribute is not well formed.
     InvalidAttr(AttrError),

@@ -19,11 +19,28 @@ use crate::errors::{Error, IllFormedError, Refused, SyntaxError};
 use crate::name::QName;
 use std::ops::Range;
 
+/// The traits are for the types here alone, so that each may have more to tell.
+mod sealed {
+    use crate::events::{BytesCData, BytesDecl, BytesEnd, BytesPI, BytesRef, BytesStart, BytesText, Event};
+
+    pub trait Sealed {}
+
+    impl<R> Sealed for crate::Reader<R> {}
+    impl Sealed for crate::Error {}
+    impl Sealed for Event<'_> {}
+    impl Sealed for BytesStart<'_> {}
+    impl Sealed for BytesEnd<'_> {}
+    impl Sealed for BytesText<'_> {}
+    impl Sealed for BytesCData<'_> {}
+    impl Sealed for BytesDecl<'_> {}
+    impl Sealed for BytesPI<'_> {}
+    impl Sealed for BytesRef<'_> {}
+}
+
 /// What a [`Reader`](crate::Reader) tells beyond quick-xml's.
-pub trait ReaderExt<'a>: Sized {
-    /// A reader in which at most so many names may be open, and never more than [`MOST_NAMES`](crate::MOST_NAMES): a name more is refused
-    /// ([`NameStackFull`](Refused::NameStackFull)). The bound is fixed. The room is taken as names open, and ends at 16 bytes for each name
-    /// that is asked for.
+pub trait ReaderExt<'a>: sealed::Sealed + Sized {
+    /// A reader with a limit: at most so many names may be open, and never more than [`MOST_NAMES`](crate::lent::MOST_NAMES). A name more is refused
+    /// ([`NameStackFull`](Refused::NameStackFull)). The room is taken as names open, and ends at 16 bytes for each name that is asked for.
     ///
     /// ```
     /// use sporebasket::errors::{Error, Refused};
@@ -164,7 +181,7 @@ impl Phase {
 }
 
 /// What an [`Event`](crate::events::Event) and its part tell beyond quick-xml's.
-pub trait EventExt {
+pub trait EventExt: sealed::Sealed {
     /// Where the reader found it in the document; none for [`Eof`](crate::events::Event::Eof), and for what a user has made or changed.
     ///
     /// ```
@@ -205,7 +222,7 @@ pub struct Place {
 }
 
 /// What an [`Error`] tells beyond quick-xml's.
-pub trait ErrorExt {
+pub trait ErrorExt: sealed::Sealed {
     /// The number of the refusal, 1 to 18; none for an error that no call of [`read_event`](crate::Reader::read_event) gives.
     ///
     /// ```

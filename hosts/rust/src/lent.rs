@@ -2,7 +2,7 @@
 //!
 //! Each but [`default_settings`] answers 0 or the number of a refusal, whatever the numbers are that it is lent. `include/sporebasket.h` says
 //! what the slots hold.
-//! [`Reader`](crate::Reader) and [`read_column`](crate::read_column) keep the memory and give the numbers their names.
+//! [`Reader`](crate::Reader) and [`read_column`](crate::column::read_column) keep the memory and give the numbers their names.
 //!
 //! ```
 //! use sporebasket::lent;
@@ -26,7 +26,7 @@
 use crate::raw::{self, answer as slot};
 use std::str;
 
-pub use crate::raw::{ANSWER_SLOTS, COLUMN_SLOTS, NAME_SLOTS, PART_SLOTS, STATE_SLOTS};
+pub use crate::raw::{ANSWER_SLOTS, COLUMN_SLOTS, LONGEST, MOST_NAMES, NAME_SLOTS, PART_SLOTS, STATE_SLOTS};
 
 /// The settings of a reader to which none are given, a bit each.
 ///
@@ -68,7 +68,7 @@ pub fn new(document: &[u8], settings: usize, state: &mut [usize]) -> usize {
 ///
 /// 17, before all else, exactly where one of these is so: the answer has fewer than [`ANSWER_SLOTS`] slots (then it is not written either) or the state
 /// fewer than [`STATE_SLOTS`]; the phase is above 5 or the settings above 511; the length is not the document's or above
-/// [`LONGEST`](crate::LONGEST); the position is above the length; the depth is above [`MOST_NAMES`](crate::MOST_NAMES) or half the stack's slots; a name is
+/// [`LONGEST`]; the position is above the length; the depth is above [`MOST_NAMES`] or half the stack's slots; a name is
 /// open, and the start of the latest is above its end, or its end above the position; the phase is `Init` with a position or depth that is not 0,
 /// `InsideMarkup` where no `<` is at the position, `InsideRef` where no `&` is there, or `InsideEmpty` with the depth 0. It leaves the stack and the state
 /// alone, so it comes again for ever. A state that passes need not be one that calls lead to: of the names the latest alone is looked at, of the document the
@@ -76,7 +76,7 @@ pub fn new(document: &[u8], settings: usize, state: &mut [usize]) -> usize {
 ///
 /// A call opens one name at most. So a stack may be short at first, and where it is full a longer one be lent before the next call, with what
 /// the short one held in its first slots: every answer is then as if the longest had been lent from the start. More slots than
-/// [`MOST_NAMES`](crate::MOST_NAMES) take hold no more names.
+/// [`MOST_NAMES`] take hold no more names.
 ///
 /// The mark, the last slot of a state, remembers that the end was told: 0 is off, any other number is on, and none is a reason for 17. Where it is
 /// 0, end of file and refusals 1 to 8, 13 to 15 and 18 write 1. No other answer writes there, and 18 is given only where it is off.

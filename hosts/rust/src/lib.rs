@@ -26,18 +26,19 @@
 //! `quick-xml = { package = "sporebasket", path = ".." }`; what is different, and what is not here, stands in the README. What this reader tells beyond
 //! quick-xml's is in [`ext`].
 //!
-//! What is refused has a number, 1 to 18, and a place: see [`Error`]. A document has at most [`LONGEST`] bytes, at most [`MOST_NAMES`] names
+//! What is refused has a number, 1 to 18, and a place: see [`Error`]. A document has at most [`LONGEST`](lent::LONGEST) bytes, at most
+//! [`MOST_NAMES`](lent::MOST_NAMES) names
 //! are open at once, and a document type is refused. Attributes and references are handed over as they stand. With
 //! [`check_open_names`](reader::Config::check_open_names) a document that ends while names are open is refused: where [`Eof`](events::Event::Eof) comes and
 //! no error before it, every element was closed.
 //!
-//! [`column()`] reads the times of a timetable's column, which may run past midnight:
+//! [`mod@column`] reads the times of a timetable's column, which may run past midnight:
 //!
 //! ```
-//! let times = sporebasket::column(b"<r><t>23:50</t><t>24:10</t></r>")?;
+//! let times = sporebasket::column::column(b"<r><t>23:50</t><t>24:10</t></r>")?;
 //! assert_eq!(times.len(), 2);
 //! assert!(times[0] < times[1]);
-//! # Ok::<(), sporebasket::ColumnError>(())
+//! # Ok::<(), sporebasket::column::ColumnError>(())
 //! ```
 //!
 //! Nothing is shared between readers, so each may be used on a thread of its own. A reader allocates
@@ -62,9 +63,6 @@ pub mod reader;
 mod time;
 
 #[doc(inline)]
-pub use column::{column, read_column, Column, ColumnError, Time};
-#[doc(inline)]
 pub use errors::{Error, Result};
-pub use raw::{LONGEST, MOST_NAMES};
 #[doc(inline)]
 pub use reader::Reader;

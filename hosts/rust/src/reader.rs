@@ -19,8 +19,8 @@ pub type Span = Range<u64>;
 
 /// A reader of the events of a document in memory.
 ///
-/// Whatever the bytes are, every call gives an event or a refusal with a number, nothing panics, and [`Eof`](Event::Eof) comes by
-/// call number length + 2, if the document is not longer than [`LONGEST`](crate::LONGEST).
+/// Whatever the bytes are, every call of [`read_event`](Reader::read_event) gives an event or a refusal with a number, nothing panics, and
+/// [`Eof`](Event::Eof) comes by call number length + 2, if the document is not longer than [`LONGEST`](lent::LONGEST).
 ///
 /// On the heap a reader takes room for open names, 16 bytes for each: for a few at first. Where all of it is taken it is doubled before the next
 /// call, up to room for [`MOST_NAMES`], which is 1 MiB.
@@ -163,8 +163,9 @@ impl<'a> Reader<&'a [u8]> {
     /// use sporebasket::events::Event;
     /// use sporebasket::{Error, Reader};
     ///
-    /// assert_eq!(Reader::from_reader(b"").read_event(), Ok(Event::Eof));
-    /// assert!(matches!(Reader::from_reader(b"\xC0\x80").read_event(), Err(Error::Encoding(_))));
+    /// let bytes = vec![b'a', 0xFF];
+    /// assert_eq!(Reader::from_reader(&bytes[..0]).read_event(), Ok(Event::Eof));
+    /// assert!(matches!(Reader::from_reader(&bytes[..]).read_event(), Err(Error::Encoding(_))));
     /// ```
     pub fn from_reader(reader: &'a [u8]) -> Self {
         Reader::with_capacity(reader, MOST_NAMES)

@@ -9,7 +9,7 @@ use std::str::{self, FromStr};
 /// It prints as it stands in a timetable, five characters always.
 ///
 /// ```
-/// use sporebasket::Time;
+/// use sporebasket::column::Time;
 ///
 /// let night: Time = "24:10".parse()?;
 /// assert!(night > "23:50".parse()?);
@@ -26,14 +26,14 @@ impl Time {
     /// The last time, 47:59.
     ///
     /// ```
-    /// assert_eq!(sporebasket::Time::LAST.minutes(), 2879);
+    /// assert_eq!(sporebasket::column::Time::LAST.minutes(), 2879);
     /// ```
     pub const LAST: Time = Time(48 * 60 - 1);
 
     /// The time of these hours, 0 to 47, and minutes of the hour, 0 to 59.
     ///
     /// ```
-    /// use sporebasket::Time;
+    /// use sporebasket::column::Time;
     ///
     /// assert_eq!(Time::new(6, 15).map(Time::minutes), Some(375));
     /// assert_eq!(Time::new(47, 59), Some(Time::LAST));
@@ -51,7 +51,7 @@ impl Time {
     /// The time so many minutes after 00:00, 0 to 2879.
     ///
     /// ```
-    /// use sporebasket::Time;
+    /// use sporebasket::column::Time;
     ///
     /// assert_eq!(Time::from_minutes(1450), Time::new(24, 10));
     /// assert_eq!(Time::from_minutes(2880), None);
@@ -63,7 +63,7 @@ impl Time {
     /// The minutes since 00:00 of the service day.
     ///
     /// ```
-    /// let [last, first]: [sporebasket::Time; 2] = ["24:10".parse()?, "23:50".parse()?];
+    /// let [last, first]: [sporebasket::column::Time; 2] = ["24:10".parse()?, "23:50".parse()?];
     /// assert_eq!(last.minutes() - first.minutes(), 20);
     /// # Ok::<(), sporebasket::column::ParseTimeError>(())
     /// ```
@@ -74,7 +74,7 @@ impl Time {
     /// The hours, 0 to 47.
     ///
     /// ```
-    /// assert_eq!(sporebasket::Time::LAST.hours(), 47);
+    /// assert_eq!(sporebasket::column::Time::LAST.hours(), 47);
     /// ```
     pub const fn hours(self) -> u16 {
         self.0 / 60
@@ -83,7 +83,7 @@ impl Time {
     /// The minute of the hour, 0 to 59.
     ///
     /// ```
-    /// assert_eq!(sporebasket::Time::LAST.minute(), 59);
+    /// assert_eq!(sporebasket::column::Time::LAST.minute(), 59);
     /// ```
     pub const fn minute(self) -> u16 {
         self.0 % 60
@@ -105,7 +105,7 @@ fn two(tens: u8, ones: u8) -> Option<u16> {
 /// Two digits, a colon and two digits, and nothing else.
 ///
 /// ```
-/// use sporebasket::Time;
+/// use sporebasket::column::Time;
 ///
 /// assert_eq!("06:15".parse(), Ok(Time::new(6, 15).unwrap()));
 /// for text in ["6:15", " 06:15", "48:00", "23:60", ""] {
@@ -144,7 +144,7 @@ impl fmt::Debug for Time {
 /// Text that is no [`Time`].
 ///
 /// ```
-/// let error = "6:15".parse::<sporebasket::Time>().unwrap_err();
+/// let error = "6:15".parse::<sporebasket::column::Time>().unwrap_err();
 /// assert_eq!(error.to_string(), "not a time from 00:00 to 47:59");
 /// ```
 #[derive(Clone, Copy, Debug, PartialEq, Eq, Hash)]

@@ -3,9 +3,9 @@
 mod common;
 
 use common::Numbers;
-use sporebasket::column::Refusal;
+use sporebasket::column::{column, read_column, Column, Refusal, Time};
 use sporebasket::errors::{Error, IllFormedError, Refused};
-use sporebasket::{column, lent, read_column, Column, Time, LONGEST, MOST_NAMES};
+use sporebasket::lent::{self, LONGEST, MOST_NAMES};
 
 /// What a slot holds that nothing was written to.
 const LEFT: usize = 99_999;

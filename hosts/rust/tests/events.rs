@@ -3,8 +3,9 @@
 use sporebasket::errors::{Error, IllFormedError, Refused};
 use sporebasket::events::{BytesCData, BytesDecl, BytesEnd, BytesPI, BytesRef, BytesStart, BytesText, Event};
 use sporebasket::ext::{ErrorExt, EventExt, ReaderExt};
+use sporebasket::lent::LONGEST;
 use sporebasket::name::QName;
-use sporebasket::{Reader, LONGEST};
+use sporebasket::Reader;
 use std::ops::Range;
 
 /// A document with an event of every kind that the reader gives.

@@ -1,6 +1,6 @@
 //! The numbers that `include/sporebasket.h` gives to C are those of the archive and of this package.
 
-use sporebasket::{lent, LONGEST, MOST_NAMES};
+use sporebasket::lent::{self, LONGEST, MOST_NAMES};
 use std::collections::HashMap;
 use std::fs;
 

@@ -3,8 +3,9 @@
 use sporebasket::errors::{Error, Refused};
 use sporebasket::events::Event;
 use sporebasket::ext::{ErrorExt, ReaderExt};
+use sporebasket::lent::{self, LONGEST, MOST_NAMES};
 use sporebasket::name::QName;
-use sporebasket::{lent, Reader, LONGEST, MOST_NAMES};
+use sporebasket::Reader;
 
 #[test]
 fn the_longest_document_is_read() {

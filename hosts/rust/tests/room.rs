@@ -6,7 +6,8 @@ mod common;
 use common::{Numbers, PHASES};
 use sporebasket::errors::{Error, Refused};
 use sporebasket::ext::ReaderExt;
-use sporebasket::{lent, Reader, LONGEST, MOST_NAMES};
+use sporebasket::lent::{self, LONGEST, MOST_NAMES};
+use sporebasket::Reader;
 
 /// The archive's memory, lent whole.
 #[derive(Clone)]

@@ -368,3 +368,42 @@ fn a_reader_can_be_shown() {
     reader.read_event().unwrap();
     assert_ne!(shown(&reader), before);
 }
+
+mod model {
+    //! Types of a timetable, under names that anyone would give them.
+
+    pub struct Time(pub u16);
+
+    pub struct Column(pub Vec<Time>);
+
+    pub fn column(minutes: &[u16]) -> Column {
+        Column(minutes.iter().map(|&minutes| Time(minutes)).collect())
+    }
+}
+
+mod imported {
+    //! Everything of both, by globs.
+
+    use super::model::*;
+    use quick_xml::events::*;
+    use quick_xml::*;
+
+    pub fn total(xml: &str) -> Result<u16> {
+        let mut reader = Reader::from_str(xml);
+        let mut minutes = Vec::new();
+        loop {
+            match reader.read_event()? {
+                Event::Text(text) => minutes.push(text.len() as u16),
+                Event::Eof => break,
+                _ => (),
+            }
+        }
+        let Column(times) = column(&minutes);
+        Ok(times.iter().map(|Time(minutes)| minutes).sum())
+    }
+}
+
+#[test]
+fn names_of_ones_own_beside_all_that_is_imported() {
+    assert_eq!(imported::total("<a>one<b>two</b>three</a>").unwrap(), 11);
+}

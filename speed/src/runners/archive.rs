@@ -1,7 +1,7 @@
 //! The functions that C hosts call, over memory that is lent once.
 
 use super::{kind, Runner, Settings, Tally};
-use sporebasket::{lent, MOST_NAMES};
+use sporebasket::lent::{self, MOST_NAMES};
 
 /// The settings, a bit each, and the slots of an answer, by `include/sporebasket.h`.
 const ALLOW_DANGLING_AMP: usize = 1;

@@ -372,7 +372,8 @@ impl<'a> BytesStart<'a> {
         BytesStart::from_content(name, name_len)
     }
 
-    /// A tag of this content, of which so many bytes are the name.
+    /// A tag of this content, of which so many bytes are the name. Where the content has fewer, or a character stands across that place, what asks for the name
+    /// panics.
     ///
     /// ```
     /// use sporebasket::events::BytesStart;
@@ -461,7 +462,7 @@ impl<'a> BytesStart<'a> {
     pub fn clear_attributes(&mut self) -> &mut BytesStart<'a> {
         let mut text = mem::take(&mut self.0.text).into_owned();
         text.truncate(self.0.name_len);
-        *self = BytesStart::new(text);
+        *self = BytesStart::from_content(text, self.0.name_len);
         self
     }
 
