@@ -6,7 +6,6 @@ use crate::run::Runs;
 use crate::shrink::Kept;
 use crate::summary::Tally;
 use crate::theirs::{Seen, Theirs, THEIR_DOCTYPE};
-use quick_xml::utils::is_whitespace;
 
 /// What stands in every slot that nobody has to write.
 pub const CANARY: usize = 0xA5C3_5A3C_A5C3_5A3C;
@@ -106,7 +105,7 @@ impl Before {
             return at;
         }
         let rest = &case.document[at..];
-        at + rest.iter().take_while(|&&b| is_whitespace(b)).count()
+        at + rest.iter().take_while(|&&b| is_white(b)).count()
     }
 }
 
@@ -464,6 +463,11 @@ fn looked_through(call: usize, depth: usize) -> bool {
 /// The state and the answer are lent with as many slots as they have, or, for a document of odd length, with more.
 fn state_slots(case: &Case) -> usize {
     STATE_SLOTS + if case.document.len() % 2 == 1 { MARGIN / 2 } else { 0 }
+}
+
+/// A blank, a tab and what ends a line.
+pub fn is_white(byte: u8) -> bool {
+    matches!(byte, b' ' | b'\t' | b'\r' | b'\n')
 }
 
 /// How many bytes of a document are well formed, by Rust's own check.

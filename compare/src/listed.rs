@@ -1,9 +1,8 @@
 //! The differences that are listed in docs/DIFFERENCES.md, each with exactly what the crate says in the place of ours.
 
-use crate::check::{first_ill, Before, Case};
+use crate::check::{first_ill, is_white, Before, Case};
 use crate::ours::*;
 use crate::theirs::{Seen, Theirs};
-use quick_xml::utils::is_whitespace;
 
 /// How many bytes `<!--` has.
 const OPENER: usize = 4;
@@ -53,7 +52,7 @@ fn is_dangling(told: &Told) -> bool {
     told.answer[KIND] == TEXT
         && told.case.settings & TRIM_END != 0
         && piece(told).starts_with(b"&")
-        && piece(told).last().is_some_and(|&b| is_whitespace(b))
+        && piece(told).last().is_some_and(|&b| is_white(b))
 }
 
 /// A comment that is refused for two hyphens, with a lone one before them.
@@ -86,10 +85,8 @@ fn their_ill(told: &Told) -> usize {
 /// Our content is the whole piece, the crate's is without the white space at its end.
 fn dangling_trim(told: &Told) -> bool {
     let from = told.answer[PIECE_FROM];
-    let kept = piece(told).iter().rposition(|&b| !is_whitespace(b)).map_or(0, |last| last + 1);
-    told.case.settings & DANGLING != 0
-        && told.answer[CONTENT_TO] == told.answer[PIECE_TO]
-        && told.seen.content == Some((from, from + kept))
+    let kept = piece(told).iter().rposition(|&b| !is_white(b)).map_or(0, |last| last + 1);
+    told.case.settings & DANGLING != 0 && told.answer[CONTENT_TO] == told.answer[PIECE_TO] && told.seen.content == Some((from, from + kept))
 }
 
 /// Our place is the first of the two, the crate's as far behind the opener as they are behind the lone one.

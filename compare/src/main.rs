@@ -1,4 +1,5 @@
-//! Compares Sporebasket with quick-xml 0.42.0, call by call, and its column reader with an account over quick-xml's events. See `tools/compare` and `tools/record`.
+//! Compares Sporebasket with quick-xml 0.42.0, call by call, its column reader with an account over quick-xml's events, and what one program is told by
+//! quick-xml and by the Rust package in its place. See `tools/compare` and `tools/record`.
 
 #![forbid(unsafe_code)]
 
@@ -14,6 +15,7 @@ mod scanners;
 mod settings;
 mod shrink;
 mod summary;
+mod swap;
 mod theirs;
 mod trace;
 
@@ -21,29 +23,44 @@ use inputs::Amount;
 use std::path::PathBuf;
 use std::process::ExitCode;
 
-const USAGE: &str = "usage: compare [--columns] [--quick | --faults | --record FOLDER] [--seed N] [FILE..]";
+const USAGE: &str = "usage: compare [--columns | --swap] [--quick | --faults | --first | --record FOLDER] [--seed N] [FILE..]";
 
 struct Wish {
     amount: Amount,
     seed: u64,
     files: Vec<PathBuf>,
-    /// The column reader alone.
+    /// The column reader alone, or the program over both alone.
     columns: bool,
+    swap: bool,
     tags: bool,
     faults: bool,
+    /// The first difference of the program over both by the quick inputs.
+    first: bool,
     record: Option<PathBuf>,
 }
 
 fn wish() -> Option<Wish> {
-    let mut wish = Wish { amount: Amount::Full, seed: 1, files: Vec::new(), columns: false, tags: false, faults: false, record: None };
+    let mut wish = Wish {
+        amount: Amount::Full,
+        seed: 1,
+        files: Vec::new(),
+        columns: false,
+        swap: false,
+        tags: false,
+        faults: false,
+        first: false,
+        record: None,
+    };
     let mut arguments = std::env::args_os().skip(1);
     while let Some(argument) = arguments.next() {
         match argument.to_str().unwrap_or_default() {
             "--quick" => wish.amount = Amount::Quick,
             "--seed" => wish.seed = arguments.next()?.to_str()?.parse().ok()?,
             "--columns" => wish.columns = true,
+            "--swap" => wish.swap = true,
             "--tags" => wish.tags = true,
             "--faults" => wish.faults = true,
+            "--first" => wish.first = true,
             "--record" => wish.record = Some(arguments.next()?.into()),
             flag if flag.starts_with('-') => return None,
             _ => wish.files.push(argument.into()),
@@ -66,6 +83,9 @@ fn main() -> ExitCode {
         let noticed = wish.columns || faults::run(wish.seed);
         return ExitCode::from(!(columns::faults(wish.seed) && noticed) as u8);
     }
+    if wish.first {
+        return ExitCode::from(swap::notice(wish.seed) as u8);
+    }
     if let Some(folder) = wish.record {
         return match record::record(&folder, wish.seed) {
             Ok(covered) => ExitCode::from(!covered as u8),
@@ -78,7 +98,7 @@ fn main() -> ExitCode {
     compare(wish)
 }
 
-/// The reader and the column reader, or the second alone.
+/// The reader, the column reader and the program over both, or one of the last two alone.
 fn compare(wish: Wish) -> ExitCode {
     if let Some(file) = wish.files.iter().find(|file| !file.is_file() || std::fs::File::open(file).is_err()) {
         eprintln!("compare: cannot read {}", file.display());
@@ -93,8 +113,10 @@ fn compare(wish: Wish) -> ExitCode {
         println!("compare: the crate's scanners do not do what is listed: {refuted:?}");
         return ExitCode::FAILURE;
     }
-    let alike = wish.columns || readers(&wish);
-    ExitCode::from(!(columns::compare(wish.amount, wish.seed, wish.files) && alike) as u8)
+    let alike = wish.columns || wish.swap || readers(&wish);
+    let columns = wish.swap || columns::compare(wish.amount, wish.seed, wish.files.clone());
+    let swap = wish.columns || swap::compare(wish.amount, wish.seed, wish.files);
+    ExitCode::from(!(alike && columns && swap) as u8)
 }
 
 /// Runs every input, or those of the files, call by call: true if nothing differs but what is listed and everything was seen that should be.

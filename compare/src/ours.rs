@@ -3,7 +3,7 @@
 use sporebasket::lent;
 
 /// The limits, which the archive is held to.
-pub use sporebasket::{LONGEST, MOST_NAMES};
+pub use sporebasket::lent::{LONGEST, MOST_NAMES};
 
 /// The settings, a bit each, and the letter of each in a recorded case.
 pub const DANGLING: u16 = 1;

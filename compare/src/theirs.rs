@@ -46,7 +46,7 @@ impl<'a> Theirs<'a> {
     }
 
     pub fn phase(&self) -> usize {
-        self.reader.phase() as usize
+        self.reader.phase()
     }
 
     pub fn position(&self) -> usize {
@@ -79,28 +79,33 @@ impl<'a> Theirs<'a> {
     }
 
     fn event(&self, event: Event<'a>) -> Seen {
-        match event {
-            Event::Start(e) => self.part(START, e.content, e.name_len),
-            Event::Empty(e) => self.part(EMPTY, e.content, e.name_len),
-            Event::Decl(e) => self.part(DECL, e.0.content, e.0.name_len),
-            Event::PI(e) => self.part(PI, e.0.content, e.0.name_len),
-            Event::End(e) => match e.0 {
-                std::borrow::Cow::Borrowed(name) => self.part(END, name, name.len()),
-                std::borrow::Cow::Owned(made) => Seen { kind: END, name: made.len(), made, ..Seen::default() },
-            },
-            Event::Text(e) => self.part(TEXT, e.0, 0),
-            Event::GeneralRef(e) => self.part(REF, e.0, 0),
-            Event::Comment(e) => self.part(COMMENT, e.0, 0),
-            Event::CData(e) => self.part(CDATA, e.0, 0),
+        match &event {
+            Event::Start(e) => self.part(START, e, e.name().as_ref().len()),
+            Event::Empty(e) => self.part(EMPTY, e, e.name().as_ref().len()),
+            Event::Decl(e) => self.part(DECL, e, if e.starts_with("xml") { 3 } else { 0 }),
+            Event::PI(e) => self.part(PI, e, e.target().len()),
+            Event::End(e) if self.place_of(e).is_some() => self.part(END, e, e.name().as_ref().len()),
+            Event::End(e) => Seen { kind: END, name: e.name().as_ref().len(), made: e.to_string(), ..Seen::default() },
+            Event::Text(e) => self.part(TEXT, e, 0),
+            Event::GeneralRef(e) => self.part(REF, e, 0),
+            Event::Comment(e) => self.part(COMMENT, e, 0),
+            Event::CData(e) => self.part(CDATA, e, 0),
             Event::DocType(_) => Seen { number: THEIR_DOCTYPE, ..Seen::default() },
             Event::Eof => Seen { kind: EOF, ..Seen::default() },
         }
     }
 
+    /// An event whose content is a part of the document; one that is not has its ends past all bytes, which no answer has.
     fn part(&self, kind: usize, content: &str, name: usize) -> Seen {
-        let from = (content.as_ptr() as usize).wrapping_sub(self.document.as_ptr() as usize);
-        let to = from.wrapping_add(content.len());
-        Seen { kind, content: Some((from, to)), name, ..Seen::default() }
+        let content = self.place_of(content).unwrap_or((usize::MAX, usize::MAX));
+        Seen { kind, content: Some(content), name, ..Seen::default() }
+    }
+
+    /// Where a part of the document lies in it, by the addresses.
+    fn place_of(&self, content: &str) -> Option<(usize, usize)> {
+        let from = (content.as_ptr() as usize).checked_sub(self.document.as_ptr() as usize)?;
+        let to = from.checked_add(content.len())?;
+        (to <= self.document.len()).then_some((from, to))
     }
 }
 

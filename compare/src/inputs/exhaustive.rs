@@ -108,6 +108,19 @@ pub fn families(amount: Amount) -> Vec<Family> {
     alphabets.into_iter().map(|alphabet| family(alphabet, amount)).collect()
 }
 
+/// The shorter sequences of those that do not come with all settings.
+pub fn short() -> Vec<Family> {
+    let alphabets = markup().into_iter().chain(text()).chain(mixed()).filter(|alphabet| alphabet.settings.len() < every().len());
+    let shorter = |alphabet: Alphabet| Alphabet { most: (alphabet.most.0.saturating_sub(2).max(2), 0), ..alphabet };
+    alphabets.map(|alphabet| family(shorter(alphabet), Amount::Quick)).collect()
+}
+
+/// Elements whose names are alike on one side of a colon, within each other, for what reads up to an end tag.
+pub fn prefixed(amount: Amount) -> Family {
+    const TAGS: &[&[u8]] = &[b"<b>", b"</b>", b"<a:b c='d'>", b"</a:b>", b"<b:c>", b"</b:c >", b"<b/>", b"<a:b:c/>", b" "];
+    family(tokens("names with prefixes", TAGS, (5, 6), combinations(&[NAMES, EXPAND, UNMATCHED, TRIM_START]), vec![12]), amount)
+}
+
 /// A job for each pair of first parts, and one for the sequences of less than two.
 pub fn family(alphabet: Alphabet, amount: Amount) -> Family {
     let most = amount.of(alphabet.most.0, alphabet.most.1);

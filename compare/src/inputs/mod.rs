@@ -83,6 +83,43 @@ pub fn columns(amount: Amount, seed: u64) -> Vec<Family> {
     families
 }
 
+/// Those of the program that is compiled over both sides: short sequences, and a share of all, but for those at the limits of a document and of its names.
+/// The shares have no factor in common with the counts of settings, so that each of these has its turn.
+pub fn swap(amount: Amount, seed: u64) -> Vec<Family> {
+    let shared = |families: Vec<Family>, quick, full| families.into_iter().map(move |family| thinned(family, amount.of(quick, full)));
+    let mut families: Vec<Family> = shared(random::families(amount, seed), 37, 127).collect();
+    families.extend(exhaustive::short());
+    families.extend(shared(vec![exhaustive::prefixed(amount)], 53, 61));
+    families.extend(shared(exhaustive::families(Amount::Quick), 71, 5));
+    families.extend(shared(places::families(Amount::Quick), 71, 7));
+    families.extend(shared(limits::families(Amount::Quick), 53, 5));
+    families.extend(shared(blocks::families(Amount::Quick), 97, 11));
+    families.extend(shared(utf8::families(Amount::Quick), 97, 11));
+    families.extend(shared(files::families(files::found(amount)), 3, 5));
+    families
+}
+
+/// One case in so many of a family.
+fn thinned(family: Family, share: u64) -> Family {
+    Family::new(family.name, family.jobs, move |job, sink| (family.run)(job, &mut Thinned { sink, share, turn: job as u64 }))
+}
+
+struct Thinned<'s> {
+    sink: &'s mut dyn Sink,
+    share: u64,
+    turn: u64,
+}
+
+impl Sink for Thinned<'_> {
+    fn case(&mut self, document: &[u8], settings: u16, slots: usize) -> Flow {
+        self.turn += 1;
+        if !self.turn.is_multiple_of(self.share) {
+            return ON;
+        }
+        self.sink.case(document, settings, slots)
+    }
+}
+
 /// The files named, and nothing else.
 pub fn of_files(paths: Vec<PathBuf>) -> Vec<Family> {
     files::families(paths)

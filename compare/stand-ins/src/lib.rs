@@ -12,6 +12,9 @@ pub mod parser;
 pub mod reader;
 pub mod utils;
 
+pub use errors::{Error, Result};
+pub use reader::{NsReader, Reader};
+
 /// The version that attribute values are normalized by. Nothing that is compared asks for it.
 #[derive(Clone, Copy, Debug, PartialEq, Eq)]
 pub enum XmlVersion {
@@ -24,7 +27,7 @@ impl XmlVersion {
         value: &'i str,
         _depth: usize,
         _resolve: impl FnMut(&str) -> Option<&'e str>,
-    ) -> Result<Cow<'i, str>, escape::EscapeError> {
+    ) -> std::result::Result<Cow<'i, str>, escape::EscapeError> {
         Ok(Cow::Borrowed(value))
     }
 }

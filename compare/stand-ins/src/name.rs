@@ -1,21 +1,64 @@
-//! Names, as far as the given files need them. Ours; no namespace is ever bound.
+//! Names, as far as the given files and programs over them need them. Ours; no namespace is ever bound.
 
 use std::fmt;
 
-#[derive(Clone, Copy, Debug, PartialEq, Eq, Hash)]
-pub struct QName<'a>(pub &'a str);
+macro_rules! name {
+    ($name:ident, $visible:vis) => {
+        #[derive(Clone, Copy, Debug, PartialEq, Eq, PartialOrd, Ord, Hash)]
+        pub struct $name<'a>($visible &'a str);
 
-impl AsRef<str> for QName<'_> {
-    fn as_ref(&self) -> &str {
-        self.0
+        impl<'a> $name<'a> {
+            pub fn into_inner(self) -> &'a str {
+                self.0
+            }
+        }
+
+        impl AsRef<str> for $name<'_> {
+            fn as_ref(&self) -> &str {
+                self.0
+            }
+        }
+    };
+}
+
+name!(QName, pub);
+name!(LocalName, pub(crate));
+name!(Prefix, pub(crate));
+name!(Namespace, pub);
+
+impl<'a> QName<'a> {
+    pub fn local_name(&self) -> LocalName<'a> {
+        self.decompose().0
+    }
+
+    pub fn prefix(&self) -> Option<Prefix<'a>> {
+        self.decompose().1
+    }
+
+    /// What stands behind the first colon and what stands before it.
+    pub fn decompose(&self) -> (LocalName<'a>, Option<Prefix<'a>>) {
+        match self.0.split_once(':') {
+            Some((prefix, local)) => (LocalName(local), Some(Prefix(prefix))),
+            None => (LocalName(self.0), None),
+        }
     }
 }
 
-#[derive(Clone, Copy, Debug, PartialEq, Eq)]
-pub struct LocalName<'a>(pub &'a str);
+impl<'a> From<QName<'a>> for LocalName<'a> {
+    fn from(name: QName<'a>) -> Self {
+        name.local_name()
+    }
+}
 
-#[derive(Clone, Copy, Debug, PartialEq, Eq)]
-pub struct Namespace<'a>(pub &'a str);
+impl Prefix<'_> {
+    pub fn is_xml(&self) -> bool {
+        self.0 == "xml"
+    }
+
+    pub fn is_xmlns(&self) -> bool {
+        self.0 == "xmlns"
+    }
+}
 
 #[derive(Clone, Debug, PartialEq, Eq)]
 pub enum ResolveResult<'a> {
@@ -39,6 +82,6 @@ pub struct NamespaceResolver;
 
 impl NamespaceResolver {
     pub fn resolve_attribute<'n>(&self, name: QName<'n>) -> (ResolveResult<'_>, LocalName<'n>) {
-        (ResolveResult::Unbound, LocalName(name.0))
+        (ResolveResult::Unbound, name.local_name())
     }
 }

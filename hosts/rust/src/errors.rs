@@ -243,52 +243,31 @@ impl From<io::Error> for Error {
     }
 }
 
-impl From<SyntaxError> for Error {
-    fn from(error: SyntaxError) -> Self {
-        Error::Syntax(error)
-    }
-}
-
-impl From<IllFormedError> for Error {
-    fn from(error: IllFormedError) -> Self {
-        Error::IllFormed(error)
-    }
-}
-
-impl From<EncodingError> for Error {
-    fn from(error: EncodingError) -> Self {
-        Error::Encoding(error)
-    }
-}
-
 impl From<Utf8Error> for Error {
     fn from(error: Utf8Error) -> Self {
         EncodingError::from(error).into()
     }
 }
 
-impl From<EscapeError> for Error {
-    fn from(error: EscapeError) -> Self {
-        Error::Escape(error)
-    }
+/// An error out of each of its parts.
+macro_rules! from {
+    ($($part:ident in $case:ident;)*) => {
+        $(impl From<$part> for Error {
+            fn from(error: $part) -> Self {
+                Error::$case(error)
+            }
+        })*
+    };
 }
 
-impl From<AttrError> for Error {
-    fn from(error: AttrError) -> Self {
-        Error::InvalidAttr(error)
-    }
-}
-
-impl From<NamespaceError> for Error {
-    fn from(error: NamespaceError) -> Self {
-        Error::Namespace(error)
-    }
-}
-
-impl From<Refused> for Error {
-    fn from(error: Refused) -> Self {
-        Error::Refused(error)
-    }
+from! {
+    SyntaxError in Syntax;
+    IllFormedError in IllFormed;
+    AttrError in InvalidAttr;
+    EncodingError in Encoding;
+    EscapeError in Escape;
+    NamespaceError in Namespace;
+    Refused in Refused;
 }
 
 /// Two I/O errors are equal if they are one.

@@ -1,0 +1,1 @@
+pub use std::assert_eq;
