@@ -80,10 +80,11 @@ static int list(const uint8_t *document, size_t length, int check, struct lent *
         if (!make_room(lent)) {
             return 0;
         }
-        sporebasket_read_event(document, length, lent->stack, lent->names * SPOREBASKET_NAME_SLOTS, lent->state,
-                               SPOREBASKET_STATE_SLOTS, lent->answer, SPOREBASKET_ANSWER_SLOTS);
+        refusal = sporebasket_read_event(document, length, lent->stack, lent->names * SPOREBASKET_NAME_SLOTS, lent->state,
+                                         SPOREBASKET_STATE_SLOTS, lent->answer, SPOREBASKET_ANSWER_SLOTS);
         say(lent->answer);
-    } while (lent->answer[SPOREBASKET_ANSWER_KIND] != SPOREBASKET_EOF);
+        /* 17 does not come to who keeps the state as it was left; it would come again for ever */
+    } while (refusal != SPOREBASKET_BAD_STATE && lent->answer[SPOREBASKET_ANSWER_KIND] != SPOREBASKET_EOF);
     return 1;
 }
 

@@ -187,9 +187,12 @@ fn plain(mut reader: Reader<&[u8]>, page: &mut Page) {
 /// What the three methods tell that read up to an end tag, each over a reader of its own.
 fn behind(reader: &Reader<&[u8]>, name: QName, page: &mut Page) {
     apart(reader, "read_to_end", page, |reader, page| end(reader.read_to_end(name), page));
-    apart(reader, "read_text", page, |reader, page| match reader.read_text(name) {
-        Ok(text) => inner_text(text, page),
-        Err(e) => error(&e, page),
+    apart(reader, "read_text", page, |reader, page| {
+        match reader.read_text(name) {
+            Ok(text) => inner_text(text, page),
+            Err(e) => error(&e, page),
+        }
+        true
     });
     apart(reader, "read_to_end_into", page, |reader, page| {
         let mut buf = b"before".to_vec();
@@ -197,8 +200,15 @@ fn behind(reader: &Reader<&[u8]>, name: QName, page: &mut Page) {
         if answer.is_ok() {
             row!(page, '=', "{}", buf.escape_ascii());
         }
+        let over = is_syntax(&answer);
         end(answer, page);
+        !over
     });
+}
+
+/// After a syntax error by a method with a buffer nothing more is written: what is then left to be read is listed as a difference.
+fn is_syntax<T>(answer: &Result<T>) -> bool {
+    matches!(answer, Err(Error::Syntax(_)))
 }
 
 /// The same of a name that is seldom there.
@@ -206,19 +216,24 @@ fn another(reader: &Reader<&[u8]>, page: &mut Page) {
     apart(reader, "read_to_end of another name", page, |reader, page| end(reader.read_to_end(QName("b:c")), page));
 }
 
-fn end(answer: Result<Span>, page: &mut Page) {
+/// What was found, and that reading goes on.
+fn end(answer: Result<Span>, page: &mut Page) -> bool {
     match answer {
         Ok(found) => span(found, page),
         Err(e) => error(&e, page),
     }
+    true
 }
 
-/// Does something with a copy of the reader, and reads on for two calls.
-fn apart<'a>(reader: &Reader<&'a [u8]>, what: &str, page: &mut Page, run: impl FnOnce(&mut Reader<&'a [u8]>, &mut Page)) {
+/// Does something with a copy of the reader, and, if that says so, reads on for two calls.
+fn apart<'a>(reader: &Reader<&'a [u8]>, what: &str, page: &mut Page, run: impl FnOnce(&mut Reader<&'a [u8]>, &mut Page) -> bool) {
     row!(page, '>', "{what}");
     let config = reader.config();
     let mut reader = reader.clone();
-    run(&mut reader, page);
+    if !run(&mut reader, page) {
+        row!(page, '<', "");
+        return;
+    }
     position(&reader, page);
     if reader.config() != config {
         row!(page, '=', "{:?}", reader.config());
@@ -250,7 +265,7 @@ fn buffered(mut reader: Reader<&[u8]>, page: &mut Page) {
         let answer = if call % 3 == 2 { reader.read_event() } else { reader.read_event_into(&mut buf) };
         brief_answer(&answer, &config, page);
         ends += usize::from(matches!(answer, Ok(Event::Eof)));
-        if matches!(answer, Err(Error::Syntax(_))) {
+        if is_syntax(&answer) {
             buf.clear();
             break;
         }

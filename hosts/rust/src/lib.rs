@@ -27,10 +27,9 @@
 //! quick-xml's is in [`ext`].
 //!
 //! What is refused has a number, 1 to 18, and a place: see [`Error`]. A document has at most [`LONGEST`](lent::LONGEST) bytes, at most
-//! [`MOST_NAMES`](lent::MOST_NAMES) names
-//! are open at once, and a document type is refused. Attributes and references are handed over as they stand. With
-//! [`check_open_names`](reader::Config::check_open_names) a document that ends while names are open is refused: where [`Eof`](events::Event::Eof) comes and
-//! no error before it, every element was closed.
+//! [`MOST_NAMES`](lent::MOST_NAMES) names are open at once, and a document type is refused. Attributes and references are handed over as they stand.
+//! With [`check_open_names`](reader::Config::check_open_names) a document that ends while names are open is refused: where
+//! [`Eof`](events::Event::Eof) comes and no error before it, every element was closed.
 //!
 //! [`mod@column`] reads the times of a timetable's column, which may run past midnight:
 //!

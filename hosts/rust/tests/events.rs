@@ -213,3 +213,12 @@ fn settings_are_shown_as_quick_xml_shows_them_and_ours_where_it_is_on() {
     config.check_open_names = true;
     assert!(format!("{config:?}").ends_with(", trim_text_end: false, check_open_names: true }"));
 }
+
+#[test]
+fn what_reads_to_the_end_first_of_all_calls_begins_with_the_byte_order_mark() {
+    let mut reader = Reader::from_str("\u{feff}a</b>");
+    reader.config_mut().allow_unmatched_ends = true;
+    assert_eq!(reader.clone().read_to_end(QName("b")), Ok(0..4));
+    assert_eq!(reader.read_text(QName("b")).unwrap().into_inner(), "\u{feff}a");
+    assert_eq!(reader.buffer_position(), 8);
+}

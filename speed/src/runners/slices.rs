@@ -1,4 +1,4 @@
-//! The crate, from its given files, and the Rust package `hosts/rust`, as a user has them: the same code over both, with a reader for each document.
+//! The crate, and the Rust package `hosts/rust`, as a user has them: the same code over both, with a reader for each document.
 
 use super::{kind, Runner, Settings, Tally};
 
