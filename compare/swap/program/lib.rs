@@ -186,7 +186,10 @@ fn plain(mut reader: Reader<&[u8]>, page: &mut Page) {
 
 /// What the three methods tell that read up to an end tag, each over a reader of its own.
 fn behind(reader: &Reader<&[u8]>, name: QName, page: &mut Page) {
-    apart(reader, "read_to_end", page, |reader, page| end(reader.read_to_end(name), page));
+    apart(reader, "read_to_end", page, |reader, page| {
+        end(reader.read_to_end(name), page);
+        true
+    });
     apart(reader, "read_text", page, |reader, page| {
         match reader.read_text(name) {
             Ok(text) => inner_text(text, page),
@@ -213,19 +216,20 @@ fn is_syntax<T>(answer: &Result<T>) -> bool {
 
 /// The same of a name that is seldom there.
 fn another(reader: &Reader<&[u8]>, page: &mut Page) {
-    apart(reader, "read_to_end of another name", page, |reader, page| end(reader.read_to_end(QName("b:c")), page));
+    apart(reader, "read_to_end of another name", page, |reader, page| {
+        end(reader.read_to_end(QName("b:c")), page);
+        true
+    });
 }
 
-/// What was found, and that reading goes on.
-fn end(answer: Result<Span>, page: &mut Page) -> bool {
+fn end(answer: Result<Span>, page: &mut Page) {
     match answer {
         Ok(found) => span(found, page),
         Err(e) => error(&e, page),
     }
-    true
 }
 
-/// Does something with a copy of the reader, and, if that says so, reads on for two calls.
+/// Does something with a copy of the reader and, where that answers true, reads on for two calls.
 fn apart<'a>(reader: &Reader<&'a [u8]>, what: &str, page: &mut Page, run: impl FnOnce(&mut Reader<&'a [u8]>, &mut Page) -> bool) {
     row!(page, '>', "{what}");
     let config = reader.config();

@@ -54,8 +54,9 @@ fn what_a_user_makes_stands_nowhere() {
 
 #[test]
 fn what_a_user_changes_stands_nowhere_any_more() {
-    let read = || Reader::from_str("<a b='c'> d ").read_event();
-    let Ok(Event::Start(tag)) = read() else { panic!() };
+    let Ok(Event::Start(tag)) = Reader::from_str("<a b='c'>").read_event() else {
+        panic!()
+    };
     let (mut named, mut cleared) = (tag.clone(), tag.clone());
     named.set_name("e");
     cleared.clear_attributes();
