@@ -1,8 +1,9 @@
-//! Compares Sporebasket with quick-xml 0.42.0, call by call, its column reader with an account over quick-xml's events, and what one program is told by
-//! quick-xml and by the Rust package in its place. See `tools/compare` and `tools/record`.
+//! Compares Sporebasket with quick-xml 0.42.0, call by call, its column reader with an account over quick-xml's events, its reading of attributes with
+//! quick-xml's own, and what one program is told by quick-xml and by the Rust package in its place. See `tools/compare` and `tools/record`.
 
 #![forbid(unsafe_code)]
 
+mod attributes;
 mod check;
 mod columns;
 mod faults;
@@ -23,15 +24,31 @@ use inputs::Amount;
 use std::path::PathBuf;
 use std::process::ExitCode;
 
-const USAGE: &str = "usage: compare [--columns | --swap] [--quick | --faults | --first | --record FOLDER] [--seed N] [FILE..]";
+const USAGE: &str =
+    "usage: compare [--columns | --attributes | --swap] [--quick | --faults | --first | --record FOLDER] [--seed N] [FILE..]";
+
+/// What is compared.
+#[derive(Clone, Copy, PartialEq, Eq)]
+enum Part {
+    All,
+    Columns,
+    Attributes,
+    Swap,
+}
+
+impl Part {
+    /// Whether a part is wished for.
+    fn has(self, part: Part) -> bool {
+        self == Part::All || self == part
+    }
+}
 
 struct Wish {
     amount: Amount,
     seed: u64,
     files: Vec<PathBuf>,
-    /// The column reader alone, or the program over both alone.
-    columns: bool,
-    swap: bool,
+    /// One part alone.
+    part: Part,
     tags: bool,
     faults: bool,
     /// The first difference of the program over both by the quick inputs.
@@ -40,24 +57,16 @@ struct Wish {
 }
 
 fn wish() -> Option<Wish> {
-    let mut wish = Wish {
-        amount: Amount::Full,
-        seed: 1,
-        files: Vec::new(),
-        columns: false,
-        swap: false,
-        tags: false,
-        faults: false,
-        first: false,
-        record: None,
-    };
+    let mut wish =
+        Wish { amount: Amount::Full, seed: 1, files: Vec::new(), part: Part::All, tags: false, faults: false, first: false, record: None };
     let mut arguments = std::env::args_os().skip(1);
     while let Some(argument) = arguments.next() {
         match argument.to_str().unwrap_or_default() {
             "--quick" => wish.amount = Amount::Quick,
             "--seed" => wish.seed = arguments.next()?.to_str()?.parse().ok()?,
-            "--columns" => wish.columns = true,
-            "--swap" => wish.swap = true,
+            "--columns" => wish.part = Part::Columns,
+            "--attributes" => wish.part = Part::Attributes,
+            "--swap" => wish.part = Part::Swap,
             "--tags" => wish.tags = true,
             "--faults" => wish.faults = true,
             "--first" => wish.first = true,
@@ -76,12 +85,14 @@ fn main() -> ExitCode {
     };
     if wish.tags {
         let scanners = scanners::ROWS.iter().map(|row| &row.tag);
-        listed::TAGS.iter().chain(scanners).for_each(|tag| println!("{tag}"));
+        listed::TAGS.iter().chain(scanners).chain(&attributes::TAGS).for_each(|tag| println!("{tag}"));
         return ExitCode::SUCCESS;
     }
     if wish.faults {
-        let noticed = wish.columns || faults::run(wish.seed);
-        return ExitCode::from(!(columns::faults(wish.seed) && noticed) as u8);
+        let readers = wish.part != Part::All || faults::run(wish.seed);
+        let columns = !wish.part.has(Part::Columns) || columns::faults(wish.seed);
+        let attributes = !wish.part.has(Part::Attributes) || attributes::faults(wish.seed);
+        return ExitCode::from(!(readers && columns && attributes) as u8);
     }
     if wish.first {
         return ExitCode::from(swap::notice(wish.seed) as u8);
@@ -98,7 +109,7 @@ fn main() -> ExitCode {
     compare(wish)
 }
 
-/// The reader, the column reader and the program over both, or one of the last two alone.
+/// The reader, the column reader, attributes and the program over both, or one of the last three alone.
 fn compare(wish: Wish) -> ExitCode {
     if let Some(file) = wish.files.iter().find(|file| !file.is_file() || std::fs::File::open(file).is_err()) {
         eprintln!("compare: cannot read {}", file.display());
@@ -113,10 +124,11 @@ fn compare(wish: Wish) -> ExitCode {
         println!("compare: the crate's scanners do not do what is listed: {refuted:?}");
         return ExitCode::FAILURE;
     }
-    let alike = wish.columns || wish.swap || readers(&wish);
-    let columns = wish.swap || columns::compare(wish.amount, wish.seed, wish.files.clone());
-    let swap = wish.columns || swap::compare(wish.amount, wish.seed, wish.files);
-    ExitCode::from(!(alike && columns && swap) as u8)
+    let alike = wish.part != Part::All || readers(&wish);
+    let columns = !wish.part.has(Part::Columns) || columns::compare(wish.amount, wish.seed, wish.files.clone());
+    let attributes = !wish.part.has(Part::Attributes) || attributes::compare(wish.amount, wish.seed, wish.files.clone());
+    let swap = !wish.part.has(Part::Swap) || swap::compare(wish.amount, wish.seed, wish.files);
+    ExitCode::from(!(alike && columns && attributes && swap) as u8)
 }
 
 /// Runs every input, or those of the files, call by call: true if nothing differs but what is listed and everything was seen that should be.

@@ -1,5 +1,6 @@
 //! The families of inputs. Each is cut into jobs that can be run in any order; a job gives its cases to a sink, always the same ones.
 
+mod attributes;
 pub mod blocks;
 mod columns;
 mod exhaustive;
@@ -118,6 +119,28 @@ impl Sink for Thinned<'_> {
         }
         self.sink.case(document, settings, slots)
     }
+}
+
+/// Those of attributes: contents of tags, and the tags in documents of the others.
+pub fn attributes(amount: Amount, seed: u64) -> Vec<Family> {
+    let found = files::found(Amount::Full);
+    let step = amount.of(found.len() / 200 + 1, 1);
+    let found: Vec<PathBuf> = found.into_iter().step_by(step).collect();
+    let mut documents = random::families(Amount::Quick, seed);
+    documents.extend(exhaustive::families(Amount::Quick));
+    documents.extend(places::families(Amount::Quick));
+    documents.extend(blocks::families(Amount::Quick));
+    documents.extend(utf8::families(Amount::Quick));
+    let share = amount.of(13, 1);
+    let mut families = attributes::families(amount, seed);
+    families.extend(documents.into_iter().map(|family| attributes::of_documents(thinned(family, share))));
+    families.extend(tags_of_files(found));
+    families
+}
+
+/// The tags in the files named.
+pub fn tags_of_files(paths: Vec<PathBuf>) -> Vec<Family> {
+    files::families(paths).into_iter().map(attributes::of_documents).collect()
 }
 
 /// The files named, and nothing else.

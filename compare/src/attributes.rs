@@ -1,0 +1,77 @@
+//! Compares our reading of attributes with a second account of its rules, and with quick-xml's own `Attributes` on the same contents.
+
+mod account;
+mod bench;
+mod faults;
+mod listed;
+mod shrink;
+mod summary;
+mod theirs;
+
+use crate::check::PANIC;
+use crate::inputs::{self, Amount};
+use crate::run;
+use bench::Bench;
+use std::collections::HashSet;
+use std::path::PathBuf;
+
+pub use listed::TAGS;
+
+/// The slots of an answer.
+const FOUND: usize = 0;
+const NAME_FROM: usize = 1;
+const NAME_TO: usize = 2;
+const VALUE_FROM: usize = 3;
+const VALUE_TO: usize = 4;
+const NEXT: usize = 5;
+const PLACE: usize = 6;
+const QUOTE: usize = 7;
+const FIRST: usize = 8;
+const SLOTS: usize = 9;
+
+/// The refusals.
+const BAD_STATE: usize = 17;
+const NO_SPACE: usize = 19;
+const NO_NAME: usize = 20;
+const NO_EQUALS: usize = 21;
+const NO_QUOTE: usize = 22;
+const LESS_THAN: usize = 23;
+const DUPLICATE: usize = 24;
+
+/// A part of a content by its ends.
+type Span = (usize, usize);
+
+/// Runs every input, or those of the files: true if nothing differs but what is listed, and everything was seen that should be.
+pub fn compare(amount: Amount, seed: u64, files: Vec<PathBuf>) -> bool {
+    let of_files = !files.is_empty();
+    let families = if of_files { inputs::tags_of_files(files) } else { inputs::attributes(amount, seed) };
+    let (tallies, found) = run::run(&families, || Bench::new(&account::SOUND, &theirs::SOUND));
+    let named: Vec<_> = families.iter().map(|family| family.name).zip(tallies).collect();
+    let all = summary::print(&named);
+    let mut shown = HashSet::new();
+    for (kept, difference) in &found {
+        if *difference == PANIC {
+            println!("a side panicked: {}", shrink::line(kept));
+            continue;
+        }
+        let mut bench = Bench::new(&account::SOUND, &theirs::SOUND);
+        let (kept, difference) = shrink::shrink(&mut bench, kept, *difference);
+        if shown.insert(shrink::line(&kept)) {
+            shrink::show(&mut bench, &kept, difference);
+        }
+    }
+    let missing = if of_files { Vec::new() } else { all.missing() };
+    missing.iter().for_each(|what| println!("never seen: {what}"));
+    println!("{}", all.line());
+    all.differences == 0 && all.contents > 0 && missing.is_empty()
+}
+
+/// Tries every wrong account of ours and of the crate's by the quick inputs: true if all are noticed.
+pub fn faults(seed: u64) -> bool {
+    let families = inputs::attributes(Amount::Quick, seed);
+    let all: Vec<_> = faults::all();
+    let notice = |fault: &faults::Fault| run::Worker::new(Bench::new(fault.account, fault.rules), true).notice(&families);
+    let noticed = crate::faults::all_of(&all, |fault| fault.name, notice);
+    println!("attributes: {noticed} of {} wrong accounts noticed", all.len());
+    noticed == all.len()
+}
