@@ -4,6 +4,7 @@ mod account;
 mod bench;
 mod faults;
 mod listed;
+mod record;
 mod shrink;
 mod summary;
 mod theirs;
@@ -16,6 +17,7 @@ use std::collections::HashSet;
 use std::path::PathBuf;
 
 pub use listed::TAGS;
+pub use record::record;
 
 /// The slots of an answer.
 const FOUND: usize = 0;

@@ -98,7 +98,8 @@ fn main() -> ExitCode {
         return ExitCode::from(swap::notice(wish.seed) as u8);
     }
     if let Some(folder) = wish.record {
-        return match record::record(&folder, wish.seed) {
+        let record = if wish.part == Part::Attributes { attributes::record } else { record::record };
+        return match record(&folder, wish.seed) {
             Ok(covered) => ExitCode::from(!covered as u8),
             Err(error) => {
                 eprintln!("record: {}: {error}", folder.display());

@@ -138,6 +138,11 @@ pub fn attributes(amount: Amount, seed: u64) -> Vec<Family> {
     families
 }
 
+/// Contents of tags alone, which are the same on every machine.
+pub fn contents(seed: u64) -> Vec<Family> {
+    attributes::families(Amount::Quick, seed)
+}
+
 /// The tags in the files named.
 pub fn tags_of_files(paths: Vec<PathBuf>) -> Vec<Family> {
     files::families(paths).into_iter().map(attributes::of_documents).collect()
