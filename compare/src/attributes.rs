@@ -2,6 +2,7 @@
 
 mod account;
 mod bench;
+mod examples;
 mod faults;
 mod listed;
 mod record;
@@ -45,6 +46,10 @@ type Span = (usize, usize);
 
 /// Runs every input, or those of the files: true if nothing differs but what is listed, and everything was seen that should be.
 pub fn compare(amount: Amount, seed: u64, files: Vec<PathBuf>) -> bool {
+    let refuted = examples::refuted();
+    if !refuted.is_empty() {
+        println!("attributes: not as docs/DIFFERENCES.md lists it: {refuted:?}");
+    }
     let of_files = !files.is_empty();
     let families = if of_files { inputs::tags_of_files(files) } else { inputs::attributes(amount, seed) };
     let (tallies, found) = run::run(&families, || Bench::new(&account::SOUND, &theirs::SOUND));
@@ -65,7 +70,7 @@ pub fn compare(amount: Amount, seed: u64, files: Vec<PathBuf>) -> bool {
     let missing = if of_files { Vec::new() } else { all.missing() };
     missing.iter().for_each(|what| println!("never seen: {what}"));
     println!("{}", all.line());
-    all.differences == 0 && all.contents > 0 && missing.is_empty()
+    refuted.is_empty() && all.differences == 0 && all.contents > 0 && missing.is_empty()
 }
 
 /// Tries every wrong account of ours and of the crate's by the quick inputs: true if all are noticed.
