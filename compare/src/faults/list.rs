@@ -92,10 +92,14 @@ fn dangling(c: &Call) -> bool {
 
 const CONTENTS: &[Fault] = &[
     act("text of a dangling ampersand loses a space", dangling, |c| c.answer[CONTENT_TO] -= 1),
-    act("text of a dangling ampersand is trimmed", dangling, |c| {
-        let kept = c.content().iter().rposition(|b| !b.is_ascii_whitespace()).map_or(0, |last| last + 1);
-        c.answer[CONTENT_TO] = c.answer[CONTENT_FROM] + kept;
-    }),
+    act(
+        "text of a dangling ampersand is trimmed",
+        dangling,
+        |c| {
+            let kept = c.content().iter().rposition(|b| !b.is_ascii_whitespace()).map_or(0, |last| last + 1);
+            c.answer[CONTENT_TO] = c.answer[CONTENT_FROM] + kept;
+        },
+    ),
     act(
         "character data that ends in a bracket is cut",
         |c| c.kind() == CDATA && c.content().ends_with(b"]"),
