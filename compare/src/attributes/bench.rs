@@ -185,7 +185,7 @@ impl Bench {
         (0..TRIED).map(|_| dice.below(length + 2)).chain(near).collect()
     }
 
-    /// Name lengths that are not the content's, but for the first now and then.
+    /// Name lengths that are not the content's, but for the second now and then.
     fn lengths(&self, content: &[u8], dice: &mut Dice) -> [usize; 2] {
         let name = self.reading.name;
         let near = if dice.below(2) == 0 { name + 1 } else { name.wrapping_sub(1) };
