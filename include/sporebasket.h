@@ -1,4 +1,4 @@
-/* Sporebasket: a verified reader of XML events, and of columns of times. Link libsporebasket.a, which `tools/host-staticlib capi` makes.
+/* Sporebasket: a verified reader of XML events, of attributes, and of columns of times. Link libsporebasket.a, which `tools/host-staticlib capi` makes.
  *
  * The host lends all memory: the document, a stack for the open names, the state of a reader, a column and room for an answer. Nothing is kept between
  * calls but what stands there, so each thread may have a reader of its own, over one document too. Every function but
@@ -96,6 +96,22 @@ enum {
     SPOREBASKET_PART_SLOTS
 };
 
+/* The slots of the answer of sporebasket_attribute and sporebasket_find_attribute. FOUND is 1 where an attribute is told: then the name and the value, without its
+ * quotes, are spans in the document, NEXT is the place just behind the closing quote, and the others are 0. Where there is none FOUND is 0, and so are all others. In a refusal PLACE is
+ * where the rule breaks; QUOTE is the byte of the quote that 22 finds not closed, or 0 where none opens; FIRST is where the name of 24 was used first; the others are 0. */
+enum {
+    SPOREBASKET_ATTRIBUTE_FOUND,
+    SPOREBASKET_ATTRIBUTE_NAME_FROM,
+    SPOREBASKET_ATTRIBUTE_NAME_TO,
+    SPOREBASKET_ATTRIBUTE_VALUE_FROM,
+    SPOREBASKET_ATTRIBUTE_VALUE_TO,
+    SPOREBASKET_ATTRIBUTE_NEXT,
+    SPOREBASKET_ATTRIBUTE_PLACE,
+    SPOREBASKET_ATTRIBUTE_QUOTE,
+    SPOREBASKET_ATTRIBUTE_FIRST,
+    SPOREBASKET_ATTRIBUTE_SLOTS
+};
+
 /* The slots of the answer of sporebasket_column. COUNT is how many times stand in the column, LOWER the first index, from 0, whose time is lower than the one
  * before it, or 0 where the column never decreases: index 0 has none before it. The others are 0 where nothing is refused; else they are those of the refusal, as
  * sporebasket_read_event gives them. The piece of 30 and 31 is that of the text or the reference, and PLACE its start; EXPECTED and FOUND are 0 there. */
@@ -115,7 +131,7 @@ enum {
 
 /* The refusals. 18 is given where end of file is due, CHECK_OPEN_NAMES is on, a name is open and the MARK is off. So it comes once, instead of the first end of
  * file, and not after a refusal that ended the run (1 to 8, 13 to 15). Its piece is that of the end of file, and it takes no name away; end of file follows.
- * 30 and 31 are of sporebasket_column alone. */
+ * 19 to 24 are of the two functions for attributes, 30 and 31 of sporebasket_column alone. */
 enum {
     SPOREBASKET_UNCLOSED_TAG = 1,
     SPOREBASKET_UNCLOSED_SINGLE_QUOTED_ATTRIBUTE_VALUE,
@@ -135,6 +151,12 @@ enum {
     SPOREBASKET_SLICE_TOO_LONG,
     SPOREBASKET_BAD_STATE,
     SPOREBASKET_UNCLOSED_ELEMENTS,
+    SPOREBASKET_NO_SPACE,
+    SPOREBASKET_EMPTY_NAME,
+    SPOREBASKET_NO_EQUALS,
+    SPOREBASKET_NO_QUOTE,
+    SPOREBASKET_LESS_THAN,
+    SPOREBASKET_NAME_USED,
     SPOREBASKET_BAD_TIME = 30,
     SPOREBASKET_COLUMN_FULL
 };
@@ -174,6 +196,34 @@ size_t sporebasket_read_event(const uint8_t *document, size_t length, size_t *st
 /* Where the bytes of a span stand in the document: the slots of `part` are its start and its end, or both are the document's end if the
  * span does not lie in it. 17: the part has too few slots, and nothing is written. */
 size_t sporebasket_content(const uint8_t *document, size_t length, size_t from, size_t to, size_t *part, size_t part_slots);
+
+/* Reads one attribute of a tag. The content is that of a Start or an Empty, from `from` to `to` in the document, and `name` the length of its name, as
+ * sporebasket_read_event tells them (CONTENT_FROM, CONTENT_TO, NAME). The first call of a tag has `at` = from + name, each call after it the NEXT of the answer before. 0 is an
+ * attribute, or none: only white space is left (FOUND is 0). All places count in the document, but that of 17, which is 0. Who has the content alone lends it as the document,
+ * from 0 to its length.
+ * An attribute is white space, a name, `=`, and a value in `'` or `"`; white space may stand on both sides of the `=`. White space is space, tab, line feed and carriage return. A name is a
+ * run, not empty, of bytes other than white space, `=`, `'` and `"`. A value ends at the quote that it began with. The first fault from the left is refused, and only by the call that
+ * comes to it; a call before it tells its attribute:
+ * - 19: no white space at `at`, just behind a value.
+ * - 20: a name is empty: `=` or a quote stands where it should begin.
+ * - 24: the name is one that was read before in this tag, byte for byte. PLACE is where it begins the second time. The element's own name does not count.
+ * - 21: no `=` behind the name and white space: PLACE is the byte there, or `to`.
+ * - 22: no quote behind the `=` and white space: PLACE is the byte there, or `to`. Or the value has no closing quote: PLACE is `to`.
+ * - 23: a `<` in a value, before its closing quote, be there one or not. PLACE is the `<`.
+ * 17 comes before all else, at 0, and exactly where one of these is so:
+ * - The answer has fewer than SPOREBASKET_ATTRIBUTE_SLOTS slots. Then nothing is written, not even the answer.
+ * - `from` is more than `to`, or `to` more than `length`.
+ * - `name` is not the count of the content's bytes before its first white space.
+ * - `at` is not reached. Reached are from + name, and the NEXT of each attribute that reading from there tells, one after the other; nothing behind a refusal, and no place besides.
+ * So it never comes where the numbers are those of a Start or an Empty, handed on as said. A refusal ends the tag: there is no place to go on from. Slots past those named above are left alone.
+ * A call walks the tag from its name, since 17 and 24 need what came before; nothing is kept between calls. */
+size_t sporebasket_attribute(const uint8_t *document, size_t length, size_t from, size_t to, size_t name, size_t at, size_t *answer,
+                             size_t slots);
+
+/* Looks up an attribute by its name: reads the tag from its name on, as sporebasket_attribute does call by call, and tells the first attribute whose name has the bytes of
+ * `wanted`. Where there is none FOUND is 0, and a refusal that is met before it is told as there. 17, at 0: as there, but that no `at` is handed in. */
+size_t sporebasket_find_attribute(const uint8_t *document, size_t length, size_t from, size_t to, size_t name, const uint8_t *wanted,
+                                  size_t wanted_length, size_t *answer, size_t slots);
 
 /* Reads the times of a timetable's column: goes through the whole document with the default settings, and fills the column with the times of its texts within
  * `t`, in the order of the document. A text is within `t` where the latest open name is `t`. White space at both its ends does not count; where nothing else is

@@ -2,7 +2,8 @@
 //!
 //! Each but [`default_settings`] answers 0 or the number of a refusal, whatever the numbers are that it is lent. `include/sporebasket.h` says
 //! what the slots hold.
-//! [`Reader`](crate::Reader) and [`read_column`](crate::column::read_column) keep the memory and give the numbers their names.
+//! [`Reader`](crate::Reader), [`Attributes`](crate::events::attributes::Attributes) and [`read_column`](crate::column::read_column) keep the memory and give the numbers
+//! their names.
 //!
 //! ```
 //! use sporebasket::lent;
@@ -26,7 +27,9 @@
 use crate::raw::{self, answer as slot};
 use std::str;
 
-pub use crate::raw::{ANSWER_SLOTS, COLUMN_SLOTS, LONGEST, MOST_NAMES, NAME_SLOTS, PART_SLOTS, STATE_SLOTS};
+pub use crate::raw::{
+    ANSWER_SLOTS, ATTRIBUTE_SLOTS, COLUMN_SLOTS, LONGEST, MOST_NAMES, NAME_SLOTS, PART_SLOTS, STATE_SLOTS,
+};
 
 /// The settings of a reader to which none are given, a bit each.
 ///
@@ -171,6 +174,88 @@ pub fn content(document: &[u8], from: usize, to: usize, part: &mut [usize]) -> u
             to,
             part.as_mut_ptr(),
             part.len(),
+        )
+    }
+}
+
+/// Reads one attribute of the tag whose content is this span of the document, of which so many bytes are the name, and writes the answer. The first call of a tag has
+/// `at` = from + name, each call after it the place to go on that the answer before told.
+///
+/// 0: an attribute, or none where only white space is left. The answer's first [`ATTRIBUTE_SLOTS`] slots are 1 for an attribute, its name, its value without the quotes, and
+/// where to go on, just behind the closing quote; then, of a refusal, its place, the quote that 22 finds not closed, and where the name of 24 was used first. What an
+/// answer has not is 0. Places count in the document.
+///
+/// 19: no white space behind a value; 20: an empty name; 21: no `=`; 22: no opening or closing quote; 23: a `<` in a value; 24: a name that was read before in this
+/// tag. After a refusal there is no place to go on.
+///
+/// 17, before all else and at 0: the answer has fewer than [`ATTRIBUTE_SLOTS`] slots (then it is not written either); the span does not lie in the document; the length of the name is
+/// not the count of the content's bytes before its first white space; or reading from the name does not come to `at`.
+///
+/// ```
+/// use sporebasket::lent;
+///
+/// let document = b"<r n=\"1\"a>";
+/// let mut answer = [0; lent::ATTRIBUTE_SLOTS];
+/// assert_eq!(lent::attribute(document, 1, 9, 1, 2, &mut answer), 0);
+/// // an attribute (1): the name 3..4, the value 6..7, and on at 8
+/// assert_eq!(answer, [1, 3, 4, 6, 7, 8, 0, 0, 0]);
+/// // no white space there
+/// assert_eq!(lent::attribute(document, 1, 9, 1, 8, &mut answer), 19);
+/// assert_eq!(answer, [0, 0, 0, 0, 0, 0, 8, 0, 0]);
+/// // in the midst of the value
+/// assert_eq!(lent::attribute(document, 1, 9, 1, 6, &mut answer), 17);
+/// ```
+pub fn attribute(document: &[u8], from: usize, to: usize, name: usize, at: usize, answer: &mut [usize]) -> usize {
+    // SAFETY: pointers and counts are those of slices, so no pointer is null; the answer is lent exclusively, so it overlaps with nothing.
+    unsafe {
+        raw::sporebasket_attribute(
+            document.as_ptr(),
+            document.len(),
+            from,
+            to,
+            name,
+            at,
+            answer.as_mut_ptr(),
+            answer.len(),
+        )
+    }
+}
+
+/// Looks up the attribute of this name in the tag whose content is this span of the document, of which so many bytes are the name, and writes the answer as [`attribute`] does.
+///
+/// It is the first attribute whose name has these bytes, none, or the first refusal that is met before it. 17: as [`attribute`] has it, but that no place is handed in.
+///
+/// ```
+/// use sporebasket::lent;
+///
+/// let document = b"<r n=\"1\" at='06:15' n=''>";
+/// let mut answer = [0; lent::ATTRIBUTE_SLOTS];
+/// assert_eq!(lent::find_attribute(document, 1, 25, 1, b"at", &mut answer), 0);
+/// assert_eq!(answer, [1, 9, 11, 13, 18, 19, 0, 0, 0]);
+/// // another name is not there; before that is known `n` is met a second time
+/// assert_eq!(lent::find_attribute(document, 1, 25, 1, b"to", &mut answer), 24);
+/// assert_eq!(answer, [0, 0, 0, 0, 0, 0, 20, 0, 3]);
+/// ```
+pub fn find_attribute(
+    document: &[u8],
+    from: usize,
+    to: usize,
+    name: usize,
+    wanted: &[u8],
+    answer: &mut [usize],
+) -> usize {
+    // SAFETY: pointers and counts are those of slices, so no pointer is null; the answer is lent exclusively, so it overlaps with nothing.
+    unsafe {
+        raw::sporebasket_find_attribute(
+            document.as_ptr(),
+            document.len(),
+            from,
+            to,
+            name,
+            wanted.as_ptr(),
+            wanted.len(),
+            answer.as_mut_ptr(),
+            answer.len(),
         )
     }
 }

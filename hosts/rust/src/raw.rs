@@ -39,6 +39,31 @@ extern "C" {
         part_slots: usize,
     ) -> usize;
 
+    /// Reads one attribute of the tag whose content is that span, and writes the answer: 0 for an attribute or none, or the refusal's number.
+    pub fn sporebasket_attribute(
+        document: *const u8,
+        length: usize,
+        from: usize,
+        to: usize,
+        name: usize,
+        at: usize,
+        answer: *mut usize,
+        slots: usize,
+    ) -> usize;
+
+    /// Looks up the attribute of that name in the tag, and writes the answer: 0 for an attribute or none, or the refusal's number.
+    pub fn sporebasket_find_attribute(
+        document: *const u8,
+        length: usize,
+        from: usize,
+        to: usize,
+        name: usize,
+        wanted: *const u8,
+        wanted_length: usize,
+        answer: *mut usize,
+        slots: usize,
+    ) -> usize;
+
     /// Fills the column with the times of the whole document, and writes the stack and the answer: 0, or the refusal's number.
     pub fn sporebasket_column(
         document: *const u8,
@@ -70,6 +95,9 @@ pub const ANSWER_SLOTS: usize = 12;
 /// The slots of a part of the document: its start and its end.
 pub const PART_SLOTS: usize = 2;
 
+/// The slots of an attribute's answer: found, name, value, next, place, quote and first, a span in two slots.
+pub const ATTRIBUTE_SLOTS: usize = 9;
+
 /// The slots of a column's answer: count, lower, number, place, piece, expected and found, a span in two slots.
 pub const COLUMN_SLOTS: usize = 10;
 
@@ -91,6 +119,17 @@ pub mod answer {
     pub const NAME: usize = 7;
     pub const EXPECTED: usize = 8;
     pub const FOUND: usize = 10;
+}
+
+/// The slots of an attribute's answer, by their places; of a span, that of its start.
+pub mod attribute {
+    pub const FOUND: usize = 0;
+    pub const NAME: usize = 1;
+    pub const VALUE: usize = 3;
+    pub const NEXT: usize = 5;
+    pub const PLACE: usize = 6;
+    pub const QUOTE: usize = 7;
+    pub const FIRST: usize = 8;
 }
 
 /// The slots of a column's answer, by their places; of a span, that of its start.
