@@ -45,7 +45,7 @@ pub enum Error {
     Syntax(SyntaxError),
     /// The document is not well formed: 9 to 12, after which reading goes on behind the piece; or the end of an element was not found.
     IllFormed(IllFormedError),
-    /// An attribute is not well formed.
+    /// An attribute is not well formed: 17, 19 to 24. No call of a reader gives it; it is made by `?` from what [`attributes`](crate::events::BytesStart::attributes) gives.
     InvalidAttr(AttrError),
     /// The piece is not UTF-8: 13. Its place is the first byte of the first sequence that is not. It ends the run.
     Encoding(EncodingError),

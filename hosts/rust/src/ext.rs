@@ -16,6 +16,7 @@
 //! ```
 
 use crate::errors::{Error, IllFormedError, Refused, SyntaxError};
+use crate::events::attributes::{AttrError, AttrRefused};
 use crate::name::QName;
 use std::ops::Range;
 
@@ -27,6 +28,7 @@ mod sealed {
 
     impl<R> Sealed for crate::Reader<R> {}
     impl Sealed for crate::Error {}
+    impl Sealed for crate::events::attributes::AttrError {}
     impl Sealed for Event<'_> {}
     impl Sealed for BytesStart<'_> {}
     impl Sealed for BytesEnd<'_> {}
@@ -223,7 +225,7 @@ pub struct Place {
 
 /// What an [`Error`] tells beyond quick-xml's.
 pub trait ErrorExt: sealed::Sealed {
-    /// The number of the refusal, 1 to 18; none for an error that no call of [`read_event`](crate::Reader::read_event) gives.
+    /// The number of the refusal: 1 to 18, or that of [`AttrErrorExt::number`]; none for an error that neither [`read_event`](crate::Reader::read_event) nor the reading of attributes gives.
     ///
     /// ```
     /// use sporebasket::errors::{Error, IllFormedError};
@@ -269,7 +271,62 @@ impl ErrorExt for Error {
                 Refused::BadState => 17,
                 Refused::UnclosedElements(_) => 18,
             },
-            Error::Io(_) | Error::InvalidAttr(_) | Error::Escape(_) | Error::Namespace(_) => return None,
+            Error::InvalidAttr(error) => error.number(),
+            Error::Io(_) | Error::Escape(_) | Error::Namespace(_) => return None,
         })
+    }
+}
+
+/// What an [`AttrError`] tells beyond quick-xml's.
+///
+/// ```
+/// use sporebasket::events::Event;
+/// use sporebasket::ext::{AttrErrorExt, EventExt};
+/// use sporebasket::Reader;
+///
+/// let document = "<t><r n='1' at='<'/>";
+/// let mut reader = Reader::from_str(document);
+/// reader.read_event()?;
+/// let Event::Empty(tag) = reader.read_event()? else { panic!() };
+/// let error = tag.attributes().find_map(Result::err).unwrap();
+/// assert_eq!(error.number(), 23);
+/// // where it stands in the document
+/// let place = tag.place().unwrap().content.start + error.position();
+/// assert_eq!(&document[place..], "<'/>");
+/// # Ok::<(), sporebasket::Error>(())
+/// ```
+pub trait AttrErrorExt: sealed::Sealed {
+    /// The number of the refusal: 17, or 19 to 24.
+    fn number(&self) -> u8;
+
+    /// Its position, from the start of the tag's content: where the rule breaks, or the content's end. It is 0 for 17.
+    fn position(&self) -> usize;
+}
+
+impl AttrErrorExt for AttrError {
+    fn number(&self) -> u8 {
+        match self {
+            AttrError::Refused(AttrRefused::BadState) => 17,
+            AttrError::Refused(AttrRefused::NoSpace(_)) => 19,
+            AttrError::Refused(AttrRefused::EmptyName(_)) => 20,
+            AttrError::ExpectedEq(_) => 21,
+            AttrError::ExpectedValue(_) | AttrError::UnquotedValue(_) | AttrError::ExpectedQuote(..) => 22,
+            AttrError::Refused(AttrRefused::LessThan(_)) => 23,
+            AttrError::Duplicated(..) => 24,
+        }
+    }
+
+    fn position(&self) -> usize {
+        match *self {
+            AttrError::ExpectedEq(at)
+            | AttrError::ExpectedValue(at)
+            | AttrError::UnquotedValue(at)
+            | AttrError::ExpectedQuote(at, _)
+            | AttrError::Duplicated(at, _) => at,
+            AttrError::Refused(error) => match error {
+                AttrRefused::BadState => 0,
+                AttrRefused::NoSpace(at) | AttrRefused::EmptyName(at) | AttrRefused::LessThan(at) => at,
+            },
+        }
     }
 }

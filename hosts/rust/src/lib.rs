@@ -13,13 +13,14 @@
 //! loop {
 //!     match reader.read_event() {
 //!         Ok(Event::Start(tag)) => assert_eq!(tag.name().as_ref(), "t"),
-//!         Ok(Event::Empty(tag)) => assert_eq!(tag.attributes_raw(), " n=\"1\""),
+//!         Ok(Event::Empty(tag)) => assert_eq!(tag.try_get_attribute("n")?.unwrap().value, "1"),
 //!         Ok(Event::Text(text)) => assert_eq!(text.into_inner(), "06:15"),
 //!         Ok(Event::Eof) => break,
 //!         Ok(_) => (),
 //!         Err(error) => panic!("{error} at byte {}", reader.error_position()),
 //!     }
 //! }
+//! # Ok::<(), sporebasket::Error>(())
 //! ```
 //!
 //! Code written for quick-xml 0.42's reader over a slice reads by this one where `Cargo.toml` has
@@ -27,7 +28,8 @@
 //! quick-xml's is in [`ext`].
 //!
 //! What is refused has a number, 1 to 18, and a place: see [`Error`]. A document has at most [`LONGEST`](lent::LONGEST) bytes, at most
-//! [`MOST_NAMES`](lent::MOST_NAMES) names are open at once, and a document type is refused. Attributes and references are handed over as they stand.
+//! [`MOST_NAMES`](lent::MOST_NAMES) names are open at once, and a document type is refused. References are handed over as they stand.
+//! [`attributes`](events::attributes) reads those of a tag, and refuses by the numbers 19 to 24.
 //! With [`check_open_names`](reader::Config::check_open_names) a document that ends while names are open is refused: where
 //! [`Eof`](events::Event::Eof) comes and no error before it, every element was closed.
 //!

@@ -5,6 +5,7 @@ pub mod attributes;
 use crate::escape::escape;
 use crate::ext::{EventExt, Place};
 use crate::name::{LocalName, QName};
+use attributes::{AttrError, Attribute, Attributes};
 use std::borrow::Cow;
 use std::fmt;
 use std::mem;
@@ -265,6 +266,11 @@ fn is_white(c: char) -> bool {
     matches!(c, ' ' | '\t' | '\n' | '\r')
 }
 
+/// How many bytes stand before the first white space.
+fn name_len(content: &str) -> usize {
+    content.find(is_white).unwrap_or(content.len())
+}
+
 /// The type of a part that is its text alone, shown under this name.
 macro_rules! text {
     ($(#[$documented:meta])* $name:ident, $shown:literal) => {
@@ -479,6 +485,40 @@ impl<'a> BytesStart<'a> {
     #[inline]
     pub fn attributes_raw(&self) -> &str {
         &self.0.text[self.0.name_len..]
+    }
+
+    /// The attributes, one after the other.
+    ///
+    /// ```
+    /// use sporebasket::events::Event;
+    /// use sporebasket::Reader;
+    ///
+    /// let Event::Start(tag) = Reader::from_str("<r n=\"1\" at='06:15'>").read_event()? else { panic!() };
+    /// let mut names = Vec::new();
+    /// for attribute in tag.attributes() {
+    ///     names.push(attribute?.key.into_inner());
+    /// }
+    /// assert_eq!(names, ["n", "at"]);
+    /// # Ok::<(), sporebasket::Error>(())
+    /// ```
+    pub fn attributes(&self) -> Attributes<'_> {
+        Attributes::new(&self.0.text, self.0.name_len)
+    }
+
+    /// The attribute of this name, if there is one: the first, and refused is only what stands before it.
+    ///
+    /// ```
+    /// use sporebasket::events::attributes::AttrError;
+    /// use sporebasket::events::BytesStart;
+    ///
+    /// let tag = BytesStart::from_content("r n=\"1\" at=", 1);
+    /// assert_eq!(tag.try_get_attribute("n")?.map(|attribute| attribute.value), Some("1".into()));
+    /// assert_eq!(tag.try_get_attribute("to"), Err(AttrError::ExpectedValue(11)));
+    /// assert_eq!(BytesStart::new("r").try_get_attribute("to")?, None);
+    /// # Ok::<(), sporebasket::Error>(())
+    /// ```
+    pub fn try_get_attribute<N: AsRef<str> + Sized>(&self, attr_name: N) -> Result<Option<Attribute<'_>>, AttrError> {
+        self.attributes().named(attr_name.as_ref())
     }
 }
 
@@ -745,7 +785,7 @@ impl<'a> BytesPI<'a> {
     #[inline]
     pub fn new<C: Into<Cow<'a, str>>>(content: C) -> Self {
         let content = content.into();
-        let name_len = content.find(is_white).unwrap_or(content.len());
+        let name_len = name_len(&content);
         BytesPI {
             content: BytesStart::from_content(content, name_len),
         }
@@ -767,6 +807,20 @@ impl<'a> BytesPI<'a> {
     #[inline]
     pub fn content(&self) -> &str {
         self.content.attributes_raw()
+    }
+
+    /// What follows the target, read as the attributes of a tag.
+    ///
+    /// ```
+    /// use sporebasket::events::BytesPI;
+    ///
+    /// let instruction = BytesPI::new("xml-stylesheet href=\"table.css\"");
+    /// assert_eq!(instruction.attributes().next().unwrap()?.value, "table.css");
+    /// # Ok::<(), sporebasket::Error>(())
+    /// ```
+    #[inline]
+    pub fn attributes(&self) -> Attributes<'_> {
+        self.content.attributes()
     }
 }
 
