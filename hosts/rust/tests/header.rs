@@ -45,6 +45,13 @@ impl Header {
         (state, answer)
     }
 
+    /// The answer to a call for the attribute at this place in the tag with this content, whose name has one byte.
+    fn attribute(&self, content: &[u8], at: usize) -> (usize, Vec<usize>) {
+        let mut answer = vec![0; self.get("ATTRIBUTE_SLOTS")];
+        let number = lent::attribute(content, 0, content.len(), 1, at, &mut answer);
+        (number, answer)
+    }
+
     /// The answer to a column with room for two times and one name.
     fn column(&self, document: &[u8]) -> Vec<usize> {
         let mut stack = vec![0; self.get("NAME_SLOTS")];
@@ -64,6 +71,7 @@ fn limits_and_slots() {
     assert_eq!(header.get("STATE_SLOTS"), lent::STATE_SLOTS);
     assert_eq!(header.get("ANSWER_SLOTS"), lent::ANSWER_SLOTS);
     assert_eq!(header.get("PART_SLOTS"), lent::PART_SLOTS);
+    assert_eq!(header.get("ATTRIBUTE_SLOTS"), lent::ATTRIBUTE_SLOTS);
     assert_eq!(header.get("COLUMN_SLOTS"), lent::COLUMN_SLOTS);
     let defaults = header.get("CHECK_END_NAMES") + header.get("TRIM_MARKUP_NAMES_IN_CLOSING_TAGS");
     assert_eq!(lent::default_settings(), defaults);
@@ -186,6 +194,63 @@ fn slots_of_a_state_and_of_an_answer() {
     ];
     for (slot, value) in slots {
         assert_eq!(answer[header.get(&format!("ANSWER_{slot}"))], value, "{slot}");
+    }
+}
+
+#[test]
+fn refusals_of_an_attribute() {
+    let header = Header::read();
+    let rows: [(&str, &[u8], usize); 9] = [
+        ("NO_SPACE", b"r a=''b", 6),
+        ("EMPTY_NAME", b"r =", 1),
+        ("NO_EQUALS", b"r a", 1),
+        ("NO_QUOTE", b"r a=", 1),
+        ("NO_QUOTE", b"r a=b", 1),
+        ("NO_QUOTE", b"r a='", 1),
+        ("LESS_THAN", b"r a='<'", 1),
+        ("NAME_USED", b"r a='' a=''", 6),
+        ("BAD_STATE", b"r a=''", 0),
+    ];
+    for (refusal, content, at) in rows {
+        assert_eq!(header.attribute(content, at).0, header.get(refusal), "{refusal}");
+    }
+    assert_eq!(
+        lent::find_attribute(b"r", 0, 1, 1, b"a", &mut []),
+        header.get("BAD_STATE")
+    );
+}
+
+#[test]
+fn slots_of_an_attribute() {
+    let header = Header::read();
+    type Slots = &'static [(&'static str, usize)];
+    let rows: [(&[u8], usize, Slots); 4] = [
+        (
+            b"r abc = 'de'",
+            1,
+            &[
+                ("FOUND", 1),
+                ("NAME_FROM", 2),
+                ("NAME_TO", 5),
+                ("VALUE_FROM", 9),
+                ("VALUE_TO", 11),
+                ("NEXT", 12),
+                ("PLACE", 0),
+            ],
+        ),
+        (
+            b"r a=\"b",
+            1,
+            &[("FOUND", 0), ("PLACE", 6), ("QUOTE", 34), ("FIRST", 0)],
+        ),
+        (b"r a='' a=''", 6, &[("PLACE", 7), ("QUOTE", 0), ("FIRST", 2)]),
+        (b"r  ", 1, &[("FOUND", 0), ("NEXT", 0), ("PLACE", 0)]),
+    ];
+    for (content, at, slots) in rows {
+        let (_, answer) = header.attribute(content, at);
+        for (slot, value) in slots {
+            assert_eq!(answer[header.get(&format!("ATTRIBUTE_{slot}"))], *value, "{slot}");
+        }
     }
 }
 
