@@ -5,6 +5,7 @@ pub mod attributes;
 use crate::escape::escape;
 use crate::name::{LocalName, QName};
 use crate::utils::{name_len, trim_xml_end, trim_xml_start, write_cow_string};
+use attributes::{AttrError, Attribute, Attributes};
 use std::borrow::Cow;
 use std::fmt::{self, Debug, Formatter};
 use std::mem::take;
@@ -82,6 +83,20 @@ impl<'a> BytesStart<'a> {
 
     pub fn attributes_raw(&self) -> &str {
         &self.buf[self.name_len..]
+    }
+
+    pub fn attributes(&self) -> Attributes<'_> {
+        Attributes::wrap(&self.buf, self.name_len, false)
+    }
+
+    pub fn try_get_attribute<N: AsRef<str> + Sized>(&self, attr_name: N) -> Result<Option<Attribute<'_>>, AttrError> {
+        for attribute in self.attributes().with_checks(false) {
+            let attribute = attribute?;
+            if attribute.key.as_ref() == attr_name.as_ref() {
+                return Ok(Some(attribute));
+            }
+        }
+        Ok(None)
     }
 }
 
@@ -176,6 +191,10 @@ impl<'a> BytesPI<'a> {
 
     pub fn content(&self) -> &str {
         self.content.attributes_raw()
+    }
+
+    pub fn attributes(&self) -> Attributes<'_> {
+        self.content.attributes()
     }
 }
 
