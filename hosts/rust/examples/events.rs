@@ -1,20 +1,38 @@
-//! Lists the events of a document, from a file or standard input: a line to each answer, up to the end of file. With `--check-open-names`
-//! before the file's name a document that ends while names are open is refused (18) before its end of file.
+//! Lists the events of a document, from a file or standard input: a line to each answer, up to the end of file. Before the file's name may stand `--check-open-names`:
+//! then a document that ends while names are open is refused (18) before its end of file; or `--attributes`: then the attributes of a tag stand behind it, a line to
+//! each.
 
 mod input;
 
 use sporebasket::errors::{Error, Refused};
 use sporebasket::events::Event;
 use sporebasket::ext::{ErrorExt, EventExt, ReaderExt};
+use sporebasket::lent::{self, ATTRIBUTE_SLOTS};
 use sporebasket::Reader;
 use std::io::{self, Write};
+use std::ops::Range;
 use std::{env, process};
 
-/// What the command line asks for: whether open names are checked, and the document that is named, or standard input.
-fn asked() -> io::Result<(bool, Vec<u8>)> {
+/// What the command line asks for besides the events.
+#[derive(Clone, Copy, PartialEq)]
+enum Asked {
+    Nothing,
+    CheckOpenNames,
+    Attributes,
+}
+
+/// What is asked for, and the document that is named, or standard input.
+fn asked() -> io::Result<(Asked, Vec<u8>)> {
     let mut words = env::args_os().skip(1).peekable();
-    let check = words.next_if(|word| word == "--check-open-names").is_some();
-    Ok((check, input::document(words.next())?))
+    let asked = match words.peek().and_then(|word| word.to_str()) {
+        Some("--check-open-names") => Asked::CheckOpenNames,
+        Some("--attributes") => Asked::Attributes,
+        _ => Asked::Nothing,
+    };
+    if asked != Asked::Nothing {
+        words.next();
+    }
+    Ok((asked, input::document(words.next())?))
 }
 
 fn word(event: &Event) -> &'static str {
@@ -44,10 +62,29 @@ fn name_len(event: &Event) -> usize {
     }
 }
 
+/// An attribute has its name and its value; a refusal, after which there is none, its number and its place. All are places in the document, as the archive's own function
+/// tells them.
+fn attributes(document: &[u8], content: Range<usize>, name: usize, out: &mut impl Write) -> io::Result<()> {
+    let mut answer = [0; ATTRIBUTE_SLOTS];
+    let mut at = content.start + name;
+    loop {
+        let number = lent::attribute(document, content.start, content.end, name, at, &mut answer);
+        let [found, name_from, name_to, value_from, value_to, next, place, ..] = answer;
+        if number != 0 {
+            return writeln!(out, "refused {number} {place}");
+        }
+        if found == 0 {
+            return Ok(());
+        }
+        writeln!(out, "attribute {name_from} {name_to} {value_from} {value_to}")?;
+        at = next;
+    }
+}
+
 /// An event has its piece, its content and the length of its name; a refusal its number and its place.
-fn list(document: &[u8], check: bool, out: &mut impl Write) -> io::Result<()> {
+fn list(document: &[u8], asked: Asked, out: &mut impl Write) -> io::Result<()> {
     let mut reader = Reader::from_reader(document);
-    reader.config_mut().check_open_names = check;
+    reader.config_mut().check_open_names = asked == Asked::CheckOpenNames;
     loop {
         match reader.read_event() {
             Ok(event) => {
@@ -59,6 +96,9 @@ fn list(document: &[u8], check: bool, out: &mut impl Write) -> io::Result<()> {
                     "{said} {} {} {} {} {name}",
                     piece.start, piece.end, content.start, content.end
                 )?;
+                if asked == Asked::Attributes && matches!(event, Event::Start(_) | Event::Empty(_)) {
+                    attributes(document, content, name, out)?;
+                }
                 if event == Event::Eof {
                     return Ok(());
                 }
@@ -78,7 +118,7 @@ fn list(document: &[u8], check: bool, out: &mut impl Write) -> io::Result<()> {
 fn main() {
     let mut out = io::BufWriter::new(io::stdout().lock());
     let done = asked()
-        .and_then(|(check, document)| list(&document, check, &mut out))
+        .and_then(|(asked, document)| list(&document, asked, &mut out))
         .and_then(|()| out.flush());
     if let Err(error) = done {
         eprintln!("events: {error}");
