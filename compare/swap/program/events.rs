@@ -1,6 +1,6 @@
 //! All that an event tells, and what can be made of it.
 
-use super::{row, Page};
+use super::{attributes, row, Page};
 use quick_xml::events::{BytesCData, BytesDecl, BytesEnd, BytesPI, BytesRef, BytesStart, BytesText, Event};
 use quick_xml::name::{LocalName, Prefix, QName};
 use std::borrow::Cow;
@@ -91,6 +91,7 @@ fn tag(e: &BytesStart, page: &mut Page) {
     let same = BytesStart::from_content(content.to_string(), length);
     row!(page, '=', "alike {} {} {} {}", *e == whole, *e == none, *e == same, *e == BytesStart::new(content));
     row!(page, '=', "{none:?} {:?} {same:?} {whole:?}", none.name());
+    attributes::write(e, page);
     changed(e, page);
 }
 
@@ -158,4 +159,5 @@ fn instruction(e: &BytesPI, page: &mut Page) {
     row!(page, '=', "{:?}, {:?}, {}", e.clone().into_owned(), e.borrow(), borrowed(e.clone().into_inner()));
     let made = BytesPI::new(content.to_string());
     row!(page, '=', "{made:?}, {:?}, {:?}, alike {}", made.target(), made.content(), made == *e);
+    attributes::write_all(e.attributes(), e.content(), page);
 }

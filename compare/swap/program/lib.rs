@@ -13,6 +13,7 @@
 
 #![forbid(unsafe_code)]
 
+mod attributes;
 mod events;
 mod fixed;
 
