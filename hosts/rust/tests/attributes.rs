@@ -22,13 +22,17 @@ fn tag(content: &str) -> BytesStart<'_> {
     BytesStart::from_content(content, name_len(content))
 }
 
-/// The attributes with a refusal, if one comes, in words.
-fn listed<'a>(attributes: impl Iterator<Item = Result<Attribute<'a>, AttrError>>) -> String {
-    let words = attributes.map(|item| match item {
+/// An attribute or a refusal in words.
+fn word(item: Result<Attribute<'_>, AttrError>) -> String {
+    match item {
         Ok(attribute) => format!("{}={}", attribute.key.as_ref(), attribute.value),
         Err(error) => format!("refused {} {}", error.number(), error.position()),
-    });
-    words.collect::<Vec<_>>().join("; ")
+    }
+}
+
+/// The attributes, with a refusal if one comes, in words.
+fn listed<'a>(attributes: impl Iterator<Item = Result<Attribute<'a>, AttrError>>) -> String {
+    attributes.map(word).collect::<Vec<_>>().join("; ")
 }
 
 /// A content, and what its attributes are.
@@ -114,34 +118,23 @@ fn each_rule_by_small_contents() {
 fn the_same_of_tags_that_are_read() {
     let mut read = 0;
     for (content, wanted) in ROWS {
-        for document in [
-            format!("<{content}>"),
-            format!("\u{feff}<{content}/>"),
-            format!("x<{content}>"),
-        ] {
+        for document in [format!("<{content}>"), format!("\u{feff}<{content}/>")] {
             let mut reader = Reader::from_str(&document);
-            let (mut buffer, mut event) = (Vec::new(), reader.clone().read_event());
-            if document.starts_with('x') {
-                reader.read_event().unwrap();
-                event = reader.clone().read_event();
-            }
-            let (Ok(Event::Start(tag) | Event::Empty(tag)), Ok(copy)) = (event, reader.read_event_into(&mut buffer))
-            else {
-                continue;
-            };
-            // a tag may end before the content does, where a quote is open
-            if *tag == **content {
-                assert_eq!(listed(tag.attributes()), *wanted, "{document}");
-                let (Event::Start(copy) | Event::Empty(copy)) = copy else {
-                    panic!("{document}")
+            let mut buffer = Vec::new();
+            for event in [reader.clone().read_event(), reader.read_event_into(&mut buffer)] {
+                // a tag that a quote leaves open is refused, and one may end elsewhere than the content does
+                let Ok(Event::Start(tag) | Event::Empty(tag)) = event else {
+                    continue;
                 };
-                assert_eq!(listed(copy.attributes()), *wanted, "{document}");
-                assert_eq!(listed(tag.into_owned().attributes()), *wanted, "{document}");
-                read += 1;
+                if *tag == **content {
+                    assert_eq!(listed(tag.attributes()), *wanted, "{document}");
+                    assert_eq!(listed(tag.into_owned().attributes()), *wanted, "{document}");
+                    read += 1;
+                }
             }
         }
     }
-    assert!(read > 2 * ROWS.len(), "{read}");
+    assert!(read > 3 * ROWS.len(), "{read} of {}", ROWS.len());
 }
 
 #[test]
@@ -600,55 +593,102 @@ fn slots_that_are_too_few_or_too_many() {
     }
 }
 
-/// A second account of a content: each attribute with where it goes on, and the refusal.
-struct Account<'a> {
-    read: Vec<(&'a str, &'a str, usize)>,
-    refusal: Option<(usize, usize)>,
+/// A call by a second account of the rules: its place, and its number and answer, with places in the content.
+struct Call {
+    at: usize,
+    number: usize,
+    answer: [usize; ATTRIBUTE_SLOTS],
 }
 
-fn account(content: &str) -> Account<'_> {
-    let mut read: Vec<(&str, &str, usize)> = Vec::new();
+impl Call {
+    fn word(&self, content: &str) -> Option<String> {
+        match self.answer {
+            [1, name_from, name_to, value_from, value_to, ..] => Some(format!(
+                "{}={}",
+                &content[name_from..name_to],
+                &content[value_from..value_to]
+            )),
+            [.., place, _, _] => (self.number != 0).then(|| format!("refused {} {place}", self.number)),
+        }
+    }
+
+    /// Whether who looks for this name stops here.
+    fn is_found_by(&self, name: &str, content: &str) -> bool {
+        self.answer[0] == 0 || &content[self.answer[1]..self.answer[2]] == name
+    }
+
+    /// The answer with places in a document, in which the content begins there.
+    fn answer_in(&self, from: usize) -> [usize; ATTRIBUTE_SLOTS] {
+        let [found, spans @ .., place, quote, first] = self.answer;
+        let [name_from, name_to, value_from, value_to, next] = match found {
+            1 => spans.map(|place| place + from),
+            _ => spans,
+        };
+        let place = if self.number == 0 { place } else { place + from };
+        let first = if self.number == 24 { first + from } else { first };
+        [
+            found, name_from, name_to, value_from, value_to, next, place, quote, first,
+        ]
+    }
+}
+
+/// All calls of a tag, of which the last has no attribute.
+fn calls(content: &str) -> Vec<Call> {
+    let mut calls: Vec<Call> = Vec::new();
+    let mut at = name_len(content);
+    loop {
+        let (number, answer) = call(content, at, &calls);
+        calls.push(Call { at, number, answer });
+        match answer {
+            [1, .., next, _, _, _] => at = next,
+            _ => return calls,
+        }
+    }
+}
+
+/// The call at a place, behind these.
+fn call(content: &str, at: usize, before: &[Call]) -> (usize, [usize; ATTRIBUTE_SLOTS]) {
     let place = |rest: &str| content.len() - rest.len();
-    let mut rest = &content[name_len(content)..];
-    let refusal = loop {
-        let begun = rest.trim_start_matches(WHITE);
-        if begun.is_empty() {
-            break None;
-        }
-        if begun == rest {
-            break Some((19, place(rest)));
-        }
-        let (key, behind) = begun.split_at(
-            begun
-                .find([' ', '\t', '\n', '\r', '=', '\'', '"'])
-                .unwrap_or(begun.len()),
-        );
-        if key.is_empty() {
-            break Some((20, place(begun)));
-        }
-        if read.iter().any(|(before, ..)| *before == key) {
-            break Some((24, place(begun)));
-        }
-        let behind = behind.trim_start_matches(WHITE);
-        let Some(behind) = behind.strip_prefix('=') else {
-            break Some((21, place(behind)));
-        };
-        let quoted = behind.trim_start_matches(WHITE);
-        let Some(quote) = quoted.chars().next().filter(|c| matches!(c, '\'' | '"')) else {
-            break Some((22, place(quoted)));
-        };
-        let open = &quoted[1..];
-        let Some(length) = open.find([quote, '<']) else {
-            break Some((22, content.len()));
-        };
-        let (value, ended) = open.split_at(length);
-        if ended.starts_with('<') {
-            break Some((23, place(ended)));
-        }
-        rest = &ended[1..];
-        read.push((key, value, place(rest)));
+    let refused = |number, rest: &str| (number, [0, 0, 0, 0, 0, 0, place(rest), 0, 0]);
+    let rest = &content[at..];
+    let begun = rest.trim_start_matches(WHITE);
+    if begun.is_empty() {
+        return (0, [0; ATTRIBUTE_SLOTS]);
+    }
+    if begun == rest {
+        return refused(19, rest);
+    }
+    let key = begun
+        .split(|c| WHITE.contains(&c) || "='\"".contains(c))
+        .next()
+        .unwrap_or_default();
+    if key.is_empty() {
+        return refused(20, begun);
+    }
+    if let Some(first) = before
+        .iter()
+        .find(|call| &content[call.answer[1]..call.answer[2]] == key)
+    {
+        return (24, [0, 0, 0, 0, 0, 0, place(begun), 0, first.answer[1]]);
+    }
+    let sign = begun[key.len()..].trim_start_matches(WHITE);
+    let Some(behind) = sign.strip_prefix('=') else {
+        return refused(21, sign);
     };
-    Account { read, refusal }
+    let quoted = behind.trim_start_matches(WHITE);
+    let Some(quote) = quoted.chars().next().filter(|c| matches!(c, '\'' | '"')) else {
+        return refused(22, quoted);
+    };
+    let value = &quoted[1..];
+    let Some(length) = value.find([quote, '<']) else {
+        return (22, [0, 0, 0, 0, 0, 0, content.len(), quote as usize, 0]);
+    };
+    let ended = &value[length..];
+    if ended.starts_with('<') {
+        return refused(23, ended);
+    }
+    let (name, value, next) = (place(begun), place(value), place(ended) + 1);
+    (0, [1, name, name + key.len(), value, value + length, next, 0, 0, 0])
 }
 
 /// Every content of up to so many of these parts.
@@ -666,84 +706,63 @@ fn contents(parts: &[&str], most: usize, mut each: impl FnMut(&str)) {
 #[test]
 fn a_second_account_of_the_attributes() {
     let parts = [" ", "\t", "=", "'", "\"", "<", "a", "\u{e9}", "='", "a='b'", " c=\"'\""];
-    let mut numbers = HashSet::new();
+    let mut seen = HashSet::new();
     contents(&parts, 5, |content| {
-        let tag = tag(content);
-        let account = account(content);
-        let mut wanted: Vec<_> = account
-            .read
-            .iter()
-            .map(|(key, value, _)| format!("{key}={value}"))
-            .collect();
-        wanted.extend(
-            account
-                .refusal
-                .map(|(number, place)| format!("refused {number} {place}")),
-        );
-        assert_eq!(listed(tag.attributes()), wanted.join("; "), "{content:?}");
+        let (tag, calls) = (tag(content), calls(content));
+        let words: Vec<_> = calls.iter().map(|call| call.word(content)).collect();
+        let mut attributes = tag.attributes();
+        for due in &words {
+            assert_eq!(attributes.next().map(word), *due, "{content:?}");
+        }
         for name in ["a", "c", "\u{e9}"] {
-            let found = tag.try_get_attribute(name);
-            match account.read.iter().find(|(key, ..)| *key == name) {
-                Some((_, value, _)) => assert_eq!(found.unwrap().unwrap().value, *value, "{content:?}"),
-                None => assert_eq!(
-                    found.err().map(|error| (usize::from(error.number()), error.position())),
-                    account.refusal,
-                    "{content:?}"
-                ),
-            }
+            let due = calls.iter().position(|call| call.is_found_by(name, content));
+            let found = tag.try_get_attribute(name).transpose().map(word);
+            assert_eq!(Some(&found), due.map(|index| &words[index]), "{content:?}, {name}");
         }
-        numbers.insert((account.read.len(), account.refusal.map(|(number, _)| number)));
+        seen.insert((calls.len(), calls.last().map(|call| call.number)));
     });
-    // none and each refusal, behind no attribute and behind one
-    for read in 0..=1 {
-        let mut wanted = vec![None, Some(20), Some(21), Some(22), Some(23)];
-        if read > 0 {
-            wanted.extend([Some(19), Some(24)]);
+    // none and each refusal, by the first call and by the second
+    for (count, numbers) in [(1, &[0, 20, 21, 22, 23][..]), (2, &[0, 19, 20, 21, 22, 23, 24])] {
+        for number in numbers {
+            assert!(seen.contains(&(count, Some(*number))), "{number} by call {count}");
         }
-        assert!(wanted.iter().all(|number| numbers.contains(&(read, *number))), "{read}");
     }
 }
 
 #[test]
-fn a_second_account_of_the_places_that_are_reached() {
+fn a_second_account_of_all_slots_at_all_places() {
     let parts = [" ", "=", "'", "<", "a", "r b=''", " a='b'"];
-    let mut answer = [0; ATTRIBUTE_SLOTS];
     contents(&parts, 4, |content| {
-        let (name, account) = (name_len(content), account(content));
-        let reached: Vec<usize> = iter::once(name)
-            .chain(account.read.iter().map(|(.., next)| *next))
-            .collect();
+        let (name, calls) = (name_len(content), calls(content));
         // in a document, behind three bytes and before two
         let document = format!("abc{content}de");
         let (from, to) = (3, 3 + content.len());
+        let attribute = |name: usize, at: usize| {
+            let mut answer = [7; ATTRIBUTE_SLOTS];
+            (
+                lent::attribute(document.as_bytes(), from, to, name, at, &mut answer),
+                answer,
+            )
+        };
+        let find = |name: usize, wanted: &str| {
+            let mut answer = [7; ATTRIBUTE_SLOTS];
+            let number = lent::find_attribute(document.as_bytes(), from, to, name, wanted.as_bytes(), &mut answer);
+            (number, answer)
+        };
+        let refused = (17, [0; ATTRIBUTE_SLOTS]);
         for at in 0..=document.len() + 1 {
-            let number = lent::attribute(document.as_bytes(), from, to, name, at, &mut answer);
-            let index = reached.iter().position(|&place| place + from == at);
-            let [found, .., next, place, _, _] = answer;
-            match index {
-                None => assert_eq!((number, place), (17, 0), "{content:?} at {at}"),
-                Some(index) => match account.read.get(index) {
-                    Some(read) => assert_eq!((number, found, next), (0, 1, read.2 + from), "{content:?} at {at}"),
-                    None => {
-                        let refusal = account.refusal.map_or((0, 0), |(number, place)| (number, place + from));
-                        assert_eq!(((number, place), found), (refusal, 0), "{content:?} at {at}");
-                    }
-                },
-            }
+            let due = calls.iter().find(|call| call.at + from == at);
+            let due = due.map_or(refused, |call| (call.number, call.answer_in(from)));
+            assert_eq!(attribute(name, at), due, "{content:?} at {at}");
+        }
+        for wanted in ["a", "b", "r"] {
+            let due = calls.iter().find(|call| call.is_found_by(wanted, content));
+            let due = due.map(|call| (call.number, call.answer_in(from)));
+            assert_eq!(Some(find(name, wanted)), due, "{content:?}, {wanted}");
         }
         for other in (0..=content.len() + 1).filter(|&other| other != name) {
-            let number = lent::attribute(document.as_bytes(), from, to, other, from + other, &mut answer);
-            assert_eq!(
-                (number, answer),
-                (17, [0; ATTRIBUTE_SLOTS]),
-                "{content:?}, name {other}"
-            );
-            let number = lent::find_attribute(document.as_bytes(), from, to, other, b"a", &mut answer);
-            assert_eq!(
-                (number, answer),
-                (17, [0; ATTRIBUTE_SLOTS]),
-                "{content:?}, name {other}"
-            );
+            assert_eq!(attribute(other, from + other), refused, "{content:?}, name {other}");
+            assert_eq!(find(other, "a"), refused, "{content:?}, name {other}");
         }
     });
 }
