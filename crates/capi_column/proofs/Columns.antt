@@ -1,15 +1,12 @@
 -- What the column reader of a host answers and leaves, from the promises of what it calls. Assumes nothing.
 use Prim.Native.Nat.{ℕ, _≤_, _<_}
 use mathlib.Core.Path.{_≡_, refl, ap, _∙_}
-use mathlib.Core.Bool.{true}
 use mathlib.Core.List.{List, [], _∷_}
-use native.Mathlib.Omega.{arith}
-use lib.ListN.{length, set, length-set}
+use lib.ListN.{length}
 use lib.Seq.{sets, sets-eq}
-use lib.Dec.{ltb}
 use borrow.Author.Needs.{needs}
-use borrow.Author.Tests.{ltb-true}
 use Rattle.ground.proofs.Choices.{pick-lt, pick-nlt}
+use Rattle.ground.proofs.Slots.{slots}
 use Rattle.state.specs.declared.answer.Values.{Values}
 use Rattle.columns.specs.declared.Summary.{Summary}
 use Rattle.columns.specs.declared.order.Order.{Order}
@@ -17,17 +14,6 @@ use Rattle.columns.specs.Order.{lowerNumber}
 use Rattle.columns.specs.Outcome.{valuesOf}
 use Rattle.columns.specs.Column.{Reading, readIn, filledWith, Columned}
 use Rattle.capi_column.specs.Columns.{badNumber, summaryNumbers, columnSlots, ColumnRead}
-
--- a slot of the answer, and one after others were written
-pub slot-in : (xs : List ℕ) (i : ℕ) → columnSlots ≤ length xs → ltb i columnSlots ≡ true → i < length xs
-slot-in xs i l e = omega (arith, ltb-true i columnSlots e)
-
-pub slot-still : (xs : List ℕ) (k v i : ℕ) → i < length xs → i < length (set xs k v)
-slot-still xs k v i l = rw (length-set xs k v) l
-
-pub slot-still-behind-four : (xs : List ℕ) (k v l w m x n y i : ℕ) → i < length xs → i < length (set (set (set (set xs k v) l w) m x) n y)
-slot-still-behind-four xs k v l w m x n y i h =
-    omega (arith, length-set xs k v, length-set (set xs k v) l w, length-set (set (set xs k v) l w) m x, length-set (set (set (set xs k v) l w) m x) n y)
 
 -- the numbers written one after the other
 pub summary-put : (xs : List ℕ) (count low : ℕ) (order : Order) (v : Values) → low ≡ lowerNumber order → columnSlots ≤ length xs
@@ -56,4 +42,4 @@ module _ (doc stack column answer : List ℕ) where
         slots = pick-nlt _ _ _ _ _ l (rw (← c .count, ← c .order, ← w) f);
       }
 
-pub ruleset columns = (needs, slot-in, slot-still-behind-four, slot-still, summary-put, column-not, column-done)
+pub ruleset columns = (needs, slots, summary-put, column-not, column-done)

@@ -6,14 +6,13 @@ use mathlib.Core.Bool.{Bool, true, false, not, _&&_}
 use native.Mathlib.Omega.{arith}
 use native.Mathlib.Nat.{zero-add}
 use lib.ListN.{length, take, drop, length-drop}
-use lib.Seq.{take-length}
 use lib.Dec.{eqb}
 use borrow.Author.Needs.{needs}
 use borrow.Author.Tests.{eq-eqb, ne-eqb, eqb-true, le-leb, lt-leb}
 use Rattle.ground.specs.Choose.{pick, allOf}
 use Rattle.ground.specs.Part.{part}
 use Rattle.ground.proofs.Choices.{both, not-true, not-false}
-use Rattle.ground.proofs.Lists.{part-in, part-first}
+use Rattle.ground.proofs.Lists.{part-from, part-first}
 use Rattle.white.specs.White.{notWhite, leading, kept}
 use Rattle.white.proofs.Runs.{until-within, kept-within}
 use Rattle.columns.specs.declared.text.Text.{Text}
@@ -54,17 +53,13 @@ pub ruleset clocks = (needs, both-pass, clock-not, clock-is)
 
 -- ---- both ends cleared
 
-part-from : (s : List ℕ) (from : ℕ) → from ≤ length s → part s from (length s) ≡ drop from s
-part-from s from l =
-    part-in s from (length s) l (omega arith) ∙ ap (λ (n : ℕ). take n (drop from s)) (sym (length-drop from s)) ∙ take-length (drop from s)
-
 module _ (s : List ℕ) (from to : ℕ) where
   pub cleared-is : (p : List ℕ) → from ≡ 0 + leading (part s 0 (length s)) → to ≡ from + kept (part s from (length s)) → p ≡ part s from to → p ≡ cleared s
   unfolding cleared
   cleared-is p e f g =
-      let n : from ≡ leading s = e ∙ zero-add _ ∙ ap leading (part-from s 0 (omega arith)) in
+      let n : from ≡ leading s = e ∙ zero-add _ ∙ ap leading (part-from s 0) in
       let l : from ≤ length s = omega (arith, until-within notWhite s) in
-      let rest : part s from (length s) ≡ drop from s = part-from s from l in
+      let rest : part s from (length s) ≡ drop from s = part-from s from in
       let k : kept (drop from s) ≤ length s - from = omega (arith, kept-within (drop from s) (length (drop from s)), length-drop from s) in
       g
       ∙ ap (part s from) (f ∙ ap (λ (bs : List ℕ). from + kept bs) rest)

@@ -4,3 +4,4 @@ pub mod First
 pub mod Equal
 pub mod Parts
 pub mod Eights
+pub mod Slots

@@ -6,7 +6,7 @@ use native.Mathlib.Numerals.{add-one}
 use native.Mathlib.Omega.{arith}
 use native.Mathlib.Decide.{decLt}
 use lib.ListN.{length, getD, take, drop, drop-of-length-le, length-take, length-drop, List·getD-eq-default}
-use lib.Seq.{drop-cons, drop-length, drop-drop, drop-at, take-nil, take-suc, take-add, getD-take, getD-drop}
+use lib.Seq.{drop-cons, drop-length, drop-drop, drop-at, take-nil, take-suc, take-length, take-add, getD-take, getD-drop}
 use lib.Dec.{ltb}
 use borrow.Author.Tests.{le-ltb, lt-ltb}
 use Rattle.ground.specs.Part.{part}
@@ -76,6 +76,17 @@ module _ (s : List ℕ) (from to : ℕ) where
           | no k ↦ omega (arith, part-length (omega arith) (omega arith))
         ]
       ]
+
+-- a span up to the slice's end is what is left there, wherever it starts
+pub part-from : (s : List ℕ) (from : ℕ) → part s from (length s) ≡ drop from s
+part-from s from =
+    elim (decLt (length s) from) [
+      | yes h ↦ part-crossed s from (length s) h ∙ sym (drop-done s from (omega arith))
+      | no h ↦
+          part-in s from (length s) (omega arith) (omega arith)
+          ∙ ap (λ (n : ℕ). take n (drop from s)) (sym (length-drop from s))
+          ∙ take-length (drop from s)
+    ]
 
 -- the first n bytes of a span are a span of their own
 pub part-first : (s : List ℕ) (from to n : ℕ) → from ≤ to → to ≤ length s → n ≤ to - from → part s from (from + n) ≡ take n (part s from to)

@@ -62,24 +62,24 @@ module _ (test : ℕ → Bool) where
       by false e r zero h = (omega arith, e)
       by false e r (suc k) h = let g = r k (omega arith) in (omega arith, g .1)
 
--- a loop that looks for the first white space of s, and stands at i
-module _ (s : List ℕ) (n i : ℕ) (v : n ≡ i + until isWhite (drop i s)) where
-  pub name-past : length s ≤ i → i ≡ n
-  name-past h = omega (arith, until-end isWhite s i h)
+-- a loop that looks for the first byte of s that passes the test, and stands at i
+module _ (test : ℕ → Bool) (s : List ℕ) (n i : ℕ) (v : n ≡ i + until test (drop i s)) where
+  pub run-past : length s ≤ i → i ≡ n
+  run-past h = omega (arith, until-end test s i h)
 
   -- where x is what a call says of the byte there
-  module _ (h : i < length s) (x : Bool) (q : x ≡ isWhite (getD s i 0)) where
-    pub name-here : x ≡ true → i ≡ n
-    name-here e = omega (arith, until-here isWhite s i h (sym q ∙ e))
+  module _ (h : i < length s) (x : Bool) (q : x ≡ test (getD s i 0)) where
+    pub run-here : x ≡ true → i ≡ n
+    run-here e = omega (arith, until-here test s i h (sym q ∙ e))
 
-    pub name-turn : x ≡ false → n ≡ i + 1 + until isWhite (drop (i + 1) s)
-    name-turn e = omega (arith, until-next isWhite s i h (sym q ∙ e))
+    pub run-turn : x ≡ false → n ≡ i + 1 + until test (drop (i + 1) s)
+    run-turn e = omega (arith, until-next test s i h (sym q ∙ e))
 
 -- a loop over the part p that starts at its first byte
 pub run-start : (test : ℕ → Bool) (p s : List ℕ) → s ≡ p → until test p ≡ 0 + until test (drop 0 s)
 run-start test p s e = omega (arith, ap (until test) e)
 
-pub ruleset until-turns = (needs, run-start, name-past, name-here, name-turn)
+pub ruleset until-turns = (needs, run-start)
 
 -- ---- w bytes at once, none of which passes the test
 
@@ -87,7 +87,8 @@ until-same : (test : ℕ → Bool) (s : List ℕ) (j k : ℕ) → j ≡ k → un
 until-same test s j k e = ap (λ (m : ℕ). until test (drop m s)) e
 
 module _ (test : ℕ → Bool) (s : List ℕ) (i : ℕ) where
-  until-byte : (k : ℕ) → k < until test (drop i s) → (i + k < length s) × (test (getD s (i + k) 0) ≡ false)
+  -- a byte before it stands in the list, and fails
+  pub until-byte : (k : ℕ) → k < until test (drop i s) → (i + k < length s) × (test (getD s (i + k) 0) ≡ false)
   until-byte k h =
       let g = until-before test (drop i s) k h in
       (omega (arith, g .0, length-drop i s), ap test (sym (getD-drop i s k 0)) ∙ g .1)
@@ -99,7 +100,7 @@ module _ (test : ℕ → Bool) (s : List ℕ) (i : ℕ) where
       let r = until-skip w (omega arith) in
       omega (arith, r, until-next test s (i + w) (there .0) (there .1), until-same test s (i + w + 1) (i + suc w) (omega arith))
 
-  until-inside : until test (drop i s) ≤ length s - i
+  pub until-inside : until test (drop i s) ≤ length s - i
   until-inside = omega (arith, until-within test (drop i s), length-drop i s)
 
 -- what holds of a loop that counts white space in front and stands at i: the answer is i and the answer for what is left there

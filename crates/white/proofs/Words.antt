@@ -18,7 +18,7 @@ use Rattle.white.specs.White.{isWhite, notWhite, until, nameLen, leading
 
 module _ (test : ℕ → Bool) where
   -- there is one at `until`, or the bytes end there
-  until-at : (bs : List ℕ) → EndsAt test bs (until test bs)
+  pub until-at : (bs : List ℕ) → EndsAt test bs (until test bs)
   unfolding until
   until-at [] = inl refl
   until-at (b ∷ bs) = by (test b) refl (until-at bs)

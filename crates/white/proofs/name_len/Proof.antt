@@ -4,7 +4,7 @@ use mathlib.Core.Path.{_≡_}
 use lib.ListN.{length, drop}
 use Rattle.ground.specs.Part.{part}
 use Rattle.white.specs.White.{isWhite, until, nameLen}
-use Rattle.white.proofs.Runs.{until-turns}
+use Rattle.white.proofs.Runs.{run-past, run-here, run-turn, until-turns}
 use Rattle.white.proofs.name_len.Statement.{statement}
 use Rattle.white.proofs.name_len.Tie as tie
 
@@ -20,12 +20,12 @@ name-len-spec =
     (tie.spec
     Inv-loop
     μ-loop
-    (λ c κs. search until-turns)
-    (λ c. search until-turns)
-    (λ c. search until-turns)
-    (λ c κs. search until-turns)
-    (λ c. search until-turns)
-    (λ c. search until-turns)
-    (λ c. search until-turns)
-    (λ c. search until-turns)
-    (λ c. search until-turns))
+    (λ c κs. search (until-turns, run-past isWhite, run-here isWhite, run-turn isWhite))
+    (λ c. search (until-turns, run-past isWhite, run-here isWhite, run-turn isWhite))
+    (λ c. search (until-turns, run-past isWhite, run-here isWhite, run-turn isWhite))
+    (λ c κs. search (until-turns, run-past isWhite, run-here isWhite, run-turn isWhite))
+    (λ c. search (until-turns, run-past isWhite, run-here isWhite, run-turn isWhite))
+    (λ c. search (until-turns, run-past isWhite, run-here isWhite, run-turn isWhite))
+    (λ c. search (until-turns, run-past isWhite, run-here isWhite, run-turn isWhite))
+    (λ c. search (until-turns, run-past isWhite, run-here isWhite, run-turn isWhite))
+    (λ c. search (until-turns, run-past isWhite, run-here isWhite, run-turn isWhite)))

@@ -1,0 +1,5 @@
+pub mod Answers
+pub mod Grammar
+pub mod Tag
+pub mod Inside
+pub mod Words

@@ -1,0 +1,35 @@
+// Marks of names: of two names with different marks it is known that they are not the same, without a look at their bytes.
+use crate::item::Extent;
+use ground::part;
+ghost use mathlib.Core.Path.{_≡_};
+ghost use Prim.Native.Nat.{_<_};
+ghost use Rattle.attributes.specs.Tag.{bytes};
+ghost use Rattle.attributes.specs.Inside.{markOf, marks};
+
+// How many marks there are.
+pub const MARKS: usize = 512;
+
+// An odd number below 2^32 by which a byte changes all higher bits of a mark.
+const FACTOR: usize = 0x9E37_79B1;
+
+// The mark of a name.
+pub fn mark_of(content: &[u8], own: Extent) -> usize
+    ensures { λ r. ⌜ (r ≡ markOf (bytes (now (content .entry)) own)) × (r < marks) ⌝ }
+{
+    let from = own.from;
+    let to = own.to;
+    let name = part(content, from, to);
+    let mut mark: usize = 0;
+    let mut i = 0;
+    while i < name.len() {
+        mark = (mark + wide(name[i])) * FACTOR % 0x1_0000_0000;
+        i += 1;
+    }
+    mark / 0x80_0000
+}
+
+fn wide(b: u8) -> usize
+    ensures { λ r. ⌜ (r ≡ b) × (r < 256) ⌝ }
+{
+    b as usize
+}
