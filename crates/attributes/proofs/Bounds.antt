@@ -1,4 +1,4 @@
--- Every place that an answer tells lies in the content. Assumes nothing.
+-- Every place that an answer tells lies in the content, and no answer of a reading from the name is 17. Assumes nothing.
 use Prim.Native.Nat.{ℕ, zero, suc, _+_, _≤_, _<_}
 use mathlib.Core.Path.{_≡_, refl, sym, ap, _∙_}
 use mathlib.Core.List.{List, [], _∷_}
@@ -21,7 +21,7 @@ use Rattle.attributes.specs.declared.item.Item.{Item}
 use Rattle.attributes.specs.declared.name.Named.{Named}
 use Rattle.attributes.specs.declared.used.Use.{Use}
 use Rattle.attributes.specs.declared.value.Valued.{Valued}
-use Rattle.attributes.specs.Answers.{faultFirst, badState, valuesOf}
+use Rattle.attributes.specs.Answers.{faultNumber, faultFirst, badState, valuesOf}
 use Rattle.attributes.specs.Grammar.{isQuote, equalsSign, byte, past, nameEnd, valueEnd, nameFrom, nameAt, equalsAt, quotedFrom, valueAt, withValue, withEquals, named}
 use Rattle.attributes.specs.Tag.{bytes, orElse, useIn, unlessUsed, withUse, itemAt, onAt, readBy, place, said, isAt, callsTo, attributeAt, firstCall, endsAt, findOf}
 use Rattle.attributes.specs.Words.{SpaceName, Sign, Quoted, Shaped, PlacesIn}
@@ -32,7 +32,7 @@ module _ (s : List ℕ) where
   -- ---- the place of a refusal by the grammar
 
   abbrev RefusalIn : Refusal → Type 0
-  RefusalIn x = (x .place ≤ length s) × (faultFirst (x .fault) ≤ length s)
+  RefusalIn x = (x .place ≤ length s) × (faultFirst (x .fault) ≤ length s) × (faultNumber (x .fault) ≡ 17 → ⊥)
 
   abbrev NamedIn : Named → Type 0
   NamedIn Named.Nothing = Unit {0}
@@ -55,12 +55,12 @@ module _ (s : List ℕ) where
   unfolding nameAt nameFrom
   name-in at h =
       pick-cases NamedIn (leb (length s) (past s at)) _ _ (λ l. tt)
-      (λ l. pick-cases NamedIn (eqb (past s at) at) _ _ (λ e. (h, omega arith))
-      (λ e. pick-cases NamedIn (eqb (nameEnd s (past s at)) (past s at)) _ _ (λ f. (past-in at h, omega arith)) (λ f. tt)))
+      (λ l. pick-cases NamedIn (eqb (past s at) at) _ _ (λ e. (h, omega arith, λ z. omega arith))
+      (λ e. pick-cases NamedIn (eqb (nameEnd s (past s at)) (past s at)) _ _ (λ f. (past-in at h, omega arith, λ z. omega arith)) (λ f. tt)))
 
   equals-in : (at : ℕ) → at ≤ length s → EqualsIn (equalsAt s at)
   unfolding equalsAt
-  equals-in at h = pick-cases EqualsIn (eqb (byte s (past s at)) equalsSign) _ _ (λ e. tt) (λ e. (past-in at h, omega arith))
+  equals-in at h = pick-cases EqualsIn (eqb (byte s (past s at)) equalsSign) _ _ (λ e. tt) (λ e. (past-in at h, omega arith, λ z. omega arith))
 
   value-in : (at : ℕ) → at ≤ length s → ValuedIn (valueAt s at)
   unfolding valueAt quotedFrom
@@ -68,9 +68,9 @@ module _ (s : List ℕ) where
       let quote : ℕ = byte s (past s at) in
       let to : ℕ = valueEnd s quote (past s at + 1) in
       pick-cases ValuedIn (isQuote quote) _ _
-      (λ q. pick-cases ValuedIn (leb (length s) to) _ _ (λ l. (omega arith, omega arith))
-      (λ l. pick-cases ValuedIn (eqb (byte s to) lt) _ _ (λ z. (omega (arith, leb-false (length s) to l), omega arith)) (λ z. tt)))
-      (λ q. (past-in at h, omega arith))
+      (λ q. pick-cases ValuedIn (leb (length s) to) _ _ (λ l. (omega arith, omega arith, λ z. omega arith))
+      (λ l. pick-cases ValuedIn (eqb (byte s to) lt) _ _ (λ z. (omega (arith, leb-false (length s) to l), omega arith, λ e. omega arith)) (λ z. tt)))
+      (λ q. (past-in at h, omega arith, λ z. omega arith))
 
   -- ---- an answer
 
@@ -114,7 +114,7 @@ module _ (s : List ℕ) where
 
   module _ (k : ℕ) where
     unless-in : (name : Extent) (at : ℕ) → SpaceName s at name → (u : Use) → useIn s (readBy s k) (bytes s name) ≡ u → ItemIn (unlessUsed s name u)
-    unless-in name at w (Use.At first) e = (omega (arith, w .some, w .within), use-in (bytes s name) first k e)
+    unless-in name at w (Use.At first) e = (omega (arith, w .some, w .within), use-in (bytes s name) first k e, λ z. omega arith)
     unless-in name at w Use.New e = named-in name (w .within)
 
     with-use-in : (at : ℕ) (q : Named) → NamedAs s at q → NamedIn q → ItemIn (withUse s (readBy s k) q)
@@ -153,6 +153,15 @@ module _ (s : List ℕ) where
           }
       by Item.Nothing e w = record { name = (omega arith, omega arith); value = (omega arith, omega arith); next = omega arith; place = omega arith; first = omega arith }
       by (Item.Refused x) e w = record { name = (omega arith, omega arith); value = (omega arith, omega arith); next = omega arith; place = w .0; first = w .1 }
+
+  -- no answer of a reading from the name is 17
+  pub said-not-17 : (k : ℕ) → valuesOf (said s k) .number ≡ 17 → ⊥
+  said-not-17 k = by (said s k) (item-in k)
+    where
+      by : (x : Item) → ItemIn x → valuesOf x .number ≡ 17 → ⊥
+      by (Item.Attribute a) w e = omega arith
+      by Item.Nothing w e = omega arith
+      by (Item.Refused x) w e = w .2 e
 
   bad-in : In badState
   bad-in = record { name = (omega arith, omega arith); value = (omega arith, omega arith); next = omega arith; place = omega arith; first = omega arith }

@@ -6,3 +6,5 @@ pub mod Tags
 pub mod Turns
 pub mod Walks
 pub mod Bounds
+pub mod Theorems
+pub mod Worked

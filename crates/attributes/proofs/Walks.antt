@@ -32,7 +32,7 @@ use Rattle.attributes.proofs.Turns.{nearer}
 -- ---- the first count of calls that passes a test
 
 module _ (test : ℕ → Bool) where
-  first-passes : (n i k : ℕ) → i ≤ k → k ≤ i + n → test k ≡ true → test (firstFrom test i n) ≡ true
+  pub first-passes : (n i k : ℕ) → i ≤ k → k ≤ i + n → test k ≡ true → test (firstFrom test i n) ≡ true
   unfolding firstFrom
   first-passes zero i k h l e = let z : k ≡ i = omega arith in ap test (sym z) ∙ e
   first-passes (suc n) i k h l e =
@@ -42,6 +42,19 @@ module _ (test : ℕ → Bool) where
       later f = elim (decLt i k) [
         | yes g ↦ omega arith
         | no g ↦ let z : k ≡ i = omega arith in clash (test k) e (ap test z ∙ f)
+      ]
+
+  -- none before it does
+  pub first-before : (n i k : ℕ) → i ≤ k → k < firstFrom test i n → test k ≡ false
+  unfolding firstFrom
+  first-before zero i k h l = absurd (omega arith)
+  first-before (suc n) i k h l = by (test i) refl (first-before n (i + 1) k) l
+    where
+      by : (x : Bool) → test i ≡ x → (i + 1 ≤ k → k < firstFrom test (i + 1) n → test k ≡ false) → k < pick x i (firstFrom test (i + 1) n) → test k ≡ false
+      by true e r m = absurd (omega arith)
+      by false e r m = elim (decLt i k) [
+        | yes g ↦ r (omega arith) m
+        | no g ↦ let z : k ≡ i = omega arith in ap test z ∙ e
       ]
 
   first-is : (n i k : ℕ) → i ≤ k → k ≤ i + n → ((m : ℕ) → i ≤ m → m < k → test m ≡ false) → test k ≡ true → firstFrom test i n ≡ k
@@ -64,12 +77,12 @@ module _ (s : List ℕ) (name at : ℕ) where
   answer-no-name n r e f g = g ∙ rw (ne-eqb (nameLen s) name (λ z. f (e ∙ ap nameLen (part-from s 0) ∙ z))) refl
 
   module _ (h : nameLen s ≡ name) where
-    answer-never : ((k : ℕ) → place s k ≡ at → ⊥) → badState ≡ attributeAt s name at
+    pub answer-never : ((k : ℕ) → place s k ≡ at → ⊥) → badState ≡ attributeAt s name at
     unfolding attributeAt
     answer-never n =
         rw (eq-eqb (nameLen s) name h, must-fail (isAt s at (callsTo s at)) (λ t. n (callsTo s at) (eqb-true (place s (callsTo s at)) at t))) refl
 
-    answer-comes : (k : ℕ) → place s k ≡ at → k ≤ length s → said s k ≡ attributeAt s name at
+    pub answer-comes : (k : ℕ) → place s k ≡ at → k ≤ length s → said s k ≡ attributeAt s name at
     unfolding attributeAt
     answer-comes k e l =
         let t : isAt s at (callsTo s at) ≡ true = first-passes (isAt s at) (length s) 0 k (omega arith) (omega arith) (eq-eqb (place s k) at e) in

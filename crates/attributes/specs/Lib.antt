@@ -3,3 +3,4 @@ pub mod Grammar
 pub mod Tag
 pub mod Inside
 pub mod Words
+pub mod Table

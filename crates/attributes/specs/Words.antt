@@ -8,6 +8,8 @@ use Rattle.white.specs.White.{isWhite}
 use Rattle.attributes.specs.declared.item.Extent.{Extent}
 use Rattle.attributes.specs.declared.item.Attribute.{Attribute}
 use Rattle.attributes.specs.declared.item.Values.{Values}
+use Rattle.attributes.specs.declared.item.Item.{Item}
+use Rattle.attributes.specs.Tag.{bytes, said}
 use Rattle.attributes.specs.Grammar.{equalsSign, isQuote, endsName, endsValue, byte}
 
 -- every byte from one place up to another passes a test, or fails it
@@ -61,3 +63,16 @@ pub record PlacesIn (n : ℕ) (v : Values) : Type 0 where
   pub next : v .next ≤ n
   pub place : v .place ≤ n
   pub first : v .first ≤ n
+
+-- a call that gives an attribute of another name
+pub record Passed (s wanted : List ℕ) (k : ℕ) : Type 0 where
+  pub attribute : Attribute
+  pub is : said s k ≡ Item.Attribute attribute
+  pub other : bytes s (attribute .name) ≡ wanted → ⊥
+
+-- a search from the name: the answer of the first call that ends it; the calls before it give attributes of other names
+pub record Searched (s wanted : List ℕ) (item : Item) : Type 0 where
+  pub calls : ℕ
+  pub is : item ≡ said s calls
+  pub ends : (a : Attribute) → item ≡ Item.Attribute a → bytes s (a .name) ≡ wanted
+  pub before : (k : ℕ) → k < calls → Passed s wanted k
