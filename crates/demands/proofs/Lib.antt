@@ -11,5 +11,6 @@ pub mod Longer
 pub mod OtherSettings
 pub mod Pieces
 pub mod Pinned
+pub mod Tags
 pub mod Unclosed
 pub mod Worked

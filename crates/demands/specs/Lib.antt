@@ -6,3 +6,4 @@ pub mod Growing
 pub mod Open
 pub mod Openings
 pub mod Table
+pub mod Tags

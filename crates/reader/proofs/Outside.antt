@@ -514,7 +514,7 @@ module _ (doc : List ℕ) (cap : ℕ) (last : Span) (r : Reader) (piece : Span) 
 -- ---- the call
 
 -- what holds of each case of the UTF-8 check holds of the choice by it
-utf8-cases : {A : Type 0} (M : A → Type 0) (u : Utf8) (a : A) (f : ℕ → A) → (u ≡ Utf8.WellFormed → M a) → ((p : ℕ) → u ≡ Utf8.IllFormed p → M (f p))
+pub utf8-cases : {A : Type 0} (M : A → Type 0) (u : Utf8) (a : A) (f : ℕ → A) → (u ≡ Utf8.WellFormed → M a) → ((p : ℕ) → u ≡ Utf8.IllFormed p → M (f p))
     → M (byUtf8 u a f)
 utf8-cases M Utf8.WellFormed a f g h = g refl
 utf8-cases M (Utf8.IllFormed p) a f g h = h p refl
