@@ -3,11 +3,14 @@ use Prim.Native.Nat.{ℕ, _+_, _*_, _/_, _%_, _≤_, _<_}
 use mathlib.Core.Path.{_≡_, refl, sym, ap, _∙_}
 use mathlib.Core.List.{List}
 use native.Mathlib.Omega.{arith}
+use native.Mathlib.Nat.{mul-le-mul-left, mul-lt-mul-of-pos-right, div-lt-iff-lt-mul}
 use lib.ListN.{length, getD, drop}
+use mir.Val.{Fits}
+use mir.Syntax.{w64}
 use borrow.Author.Needs.{needs}
 use Rattle.ground.specs.Part.{part}
 use Rattle.ground.proofs.Lists.{drop-next, drop-done}
-use Rattle.attributes.specs.Inside.{marks, mixed, markOf}
+use Rattle.attributes.specs.Inside.{Marks, mixed, markOf}
 
 -- the loop stands at i of the name with what is mixed so far
 module _ (name : List ℕ) (i mark : ℕ) (v : mixed 0 name ≡ mixed mark (drop i name)) where
@@ -19,14 +22,21 @@ module _ (name : List ℕ) (i mark : ℕ) (v : mixed 0 name ≡ mixed mark (drop
   unfolding mixed
   mark-is h = v ∙ rw (drop-done name i h) refl
 
-  pub mark-end : (s : List ℕ) (from to : ℕ) → length name ≤ i → name ≡ part s from to → mark / 0x800000 ≡ markOf (part s from to)
+  pub mark-end : (s : List ℕ) (from to marks : ℕ) → length name ≤ i → name ≡ part s from to → mark * marks / 0x100000000 ≡ markOf marks (part s from to)
   unfolding markOf
-  mark-end s from to h e = ap (λ (n : ℕ). n / 0x800000) (sym (mark-is h)) ∙ ap (λ (w : List ℕ). mixed 0 w / 0x800000) e
+  mark-end s from to marks h e = ap (λ (n : ℕ). n * marks / 0x100000000) (sym (mark-is h)) ∙ ap (λ (w : List ℕ). mixed 0 w * marks / 0x100000000) e
 
 pub mark-start : (name : List ℕ) → mixed 0 name ≡ mixed 0 (drop 0 name)
 mark-start name = refl
 
-pub mark-below : (mark : ℕ) → mark < 0x100000000 → mark / 0x800000 < marks
-mark-below mark l = omega arith
+-- a part of so many marks is one of them, and the product fits
+module _ (mark marks : ℕ) (l : mark < 0x100000000) (m : Marks marks) where
+  pub mark-below : mark * marks / 0x100000000 < marks
+  mark-below =
+      let z : mark * marks < 0x100000000 * marks = mul-lt-mul-of-pos-right l (m .some) in
+      div-lt-iff-lt-mul {k = 0x100000000} {x = mark * marks} {y = marks} (omega arith) .1 (omega arith)
 
-pub ruleset mark-turns = (needs, mark-start, mark-turn, mark-end, mark-below)
+  pub mark-fits : Fits w64 (mark * marks)
+  mark-fits = record { fits = let z : mark * marks ≤ mark * 65536 = mul-le-mul-left mark (m .most) in omega arith }
+
+pub ruleset mark-turns = (needs, mark-start, mark-turn, mark-end, mark-below, mark-fits)

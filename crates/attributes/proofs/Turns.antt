@@ -160,7 +160,7 @@ module _ (s : List ℕ) (name at : ℕ) (seen : List ℕ) (q : Named) (e : q ≡
           shaped = λ a f. shape-as ∙ rw is (sym g ∙ f);
         }
 
-    pub item-unmarked : (r : Item) (mark : ℕ) → mark ≡ markOf (bytes s own) → getD seen mark 0 ≡ 0 → r ≡ named s own → ItemTold s name at seen r
+    pub item-unmarked : (r : Item) (mark : ℕ) → mark ≡ markOf (length seen) (bytes s own) → getD seen mark 0 ≡ 0 → r ≡ named s own → ItemTold s name at seen r
     item-unmarked r mark f z g = item-named r g (λ k c m. m (bytes s own) (ap (λ (i : ℕ). getD seen i 0) (sym f) ∙ z))
 
     module _ (u : Use) (w : UseTold s name at (bytes s own) u) where

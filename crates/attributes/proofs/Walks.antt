@@ -5,7 +5,7 @@ use mathlib.Core.List.{List, [], _∷_}
 use mathlib.Core.Bool.{Bool, true, false}
 use native.Mathlib.Omega.{arith}
 use native.Mathlib.Decide.{decLt}
-use lib.ListN.{length, getD, set, drop}
+use lib.ListN.{length, getD, set, length-set}
 use lib.Seq.{getD-set-same, getD-set-other}
 use lib.Dec.{eqb}
 use borrow.Author.Needs.{needs}
@@ -24,7 +24,7 @@ use Rattle.attributes.specs.declared.item.Item.{Item}
 use Rattle.attributes.specs.declared.used.Use.{Use}
 use Rattle.attributes.specs.Answers.{badState}
 use Rattle.attributes.specs.Tag.{bytes, orElse, useIn, itemAt, onAt, readBy, place, said, firstFrom, isAt, callsTo, attributeAt, isEnd, endsAt, findOf}
-use Rattle.attributes.specs.Inside.{markOf, Marked, Comes, ItemTold}
+use Rattle.attributes.specs.Inside.{Marks, markOf, Marked, Comes, ItemTold}
 use Rattle.attributes.proofs.Shapes.{an-attribute's-shape, shape-rises, shape-within}
 use Rattle.attributes.proofs.Tags.{place-first, place-on, place-rises, read-on, said-shape, read-at, read-stays, place-order, use-on, use-none}
 use Rattle.attributes.proofs.Turns.{nearer}
@@ -135,16 +135,20 @@ module _ (s : List ℕ) (name : ℕ) (on : ℕ → Type 0) (seen : List ℕ) whe
         walk-attribute : said s (v .calls) ≡ Item.Attribute a
         walk-attribute = sym walk-said ∙ is
 
-        walk-marked : (mark : ℕ) → mark ≡ markOf (bytes s (a .name)) → mark < length seen → Marked s (readBy s (suc (v .calls))) (set seen mark 1)
+        walk-marked : (mark : ℕ) → mark ≡ markOf (length seen) (bytes s (a .name)) → mark < length seen → Marked s (readBy s (suc (v .calls))) (set seen mark 1)
         walk-marked mark e l w z =
-            let apart : (markOf w ≡ mark → ⊥) = λ (g : markOf w ≡ mark).
-            let o : _≡_ {A = ℕ} 0 1 = sym z ∙ ap (λ (i : ℕ). getD (set seen mark 1) i 0) g ∙ getD-set-same seen mark 1 0 l in
+            let same-size : length (set seen mark 1) ≡ length seen = length-set seen mark 1 in
+            let m : ℕ = markOf (length seen) w in
+            let free : getD (set seen mark 1) m 0 ≡ 0 = ap (λ (n : ℕ). getD (set seen mark 1) (markOf n w) 0) (sym same-size) ∙ z in
+            let apart : (m ≡ mark → ⊥) = λ (g : m ≡ mark).
+            let o : _≡_ {A = ℕ} 0 1 = sym free ∙ ap (λ (i : ℕ). getD (set seen mark 1) i 0) g ∙ getD-set-same seen mark 1 0 l in
             omega arith in
-            let new : useIn s (readBy s (v .calls)) w ≡ Use.New = v .marked w (sym (getD-set-other seen mark (markOf w) 1 0 apart) ∙ z) in
-            let other : same (bytes s (a .name)) w ≡ false = must-fail (same (bytes s (a .name)) w) (λ g. apart (sym (e ∙ ap markOf (same-is (bytes s (a .name)) w .0 g)))) in
+            let new : useIn s (readBy s (v .calls)) w ≡ Use.New = v .marked w (sym (getD-set-other seen mark m 1 0 apart) ∙ free) in
+            let other : same (bytes s (a .name)) w ≡ false =
+            must-fail (same (bytes s (a .name)) w) (λ g. apart (sym (e ∙ ap (markOf (length seen)) (same-is (bytes s (a .name)) w .0 g)))) in
             ap (λ (b : List Attribute). useIn s b w) (read-on s (v .calls) a walk-attribute) ∙ use-on s w a (readBy s (v .calls)) ∙ rw (new, other) refl
 
-        walk-turn : (mark : ℕ) → mark ≡ markOf (bytes s (a .name)) → mark < length seen → on (v .calls) → Walked s name on (set seen mark 1) (a .next)
+        walk-turn : (mark : ℕ) → mark ≡ markOf (length seen) (bytes s (a .name)) → mark < length seen → on (v .calls) → Walked s name on (set seen mark 1) (a .next)
         walk-turn mark e l p =
             let n : place s (suc (v .calls)) ≡ a .next = place-on s (v .calls) a walk-attribute in
             record {
@@ -161,6 +165,10 @@ module _ (s : List ℕ) (name : ℕ) (on : ℕ → Type 0) (seen : List ℕ) whe
               | yes g ↦ v .before k g
               | no g ↦ let z : v .calls ≡ k = omega arith in subst on z p
             ]
+
+-- a table of marks keeps its length
+pub marks-still : (seen : List ℕ) (mark : ℕ) → Marks (length seen) → Marks (length (set seen mark 1))
+marks-still seen mark m = rw (length-set seen mark 1) m
 
 -- ---- the walk to a place
 
@@ -210,10 +218,10 @@ module _ (s : List ℕ) (name at : ℕ) (seen : List ℕ) where
           pub go-less : at - a .next < at - from
           go-less = nearer s at from item a l (is ∙ sym (t .shaped a is)) is
 
-          pub go-turn : (mark : ℕ) → mark ≡ markOf (bytes s (a .name)) → mark < length seen → Walked s name (Elsewhere s at) (set seen mark 1) (a .next)
+          pub go-turn : (mark : ℕ) → mark ≡ markOf (length seen) (bytes s (a .name)) → mark < length seen → Walked s name (Elsewhere s at) (set seen mark 1) (a .next)
           go-turn mark e m = walk-turn s name (Elsewhere s at) seen from v item t a is mark e m (λ p. omega (arith, v .comes .place))
 
-pub ruleset goes = (needs, answer-no-name, go-start, go-over, go-here, go-nothing, go-refused, go-less, go-turn)
+pub ruleset goes = (needs, marks-still, answer-no-name, go-start, go-over, go-here, go-nothing, go-refused, go-less, go-turn)
 
 -- ---- the walk to a name
 
@@ -252,8 +260,8 @@ module _ (s : List ℕ) (name : ℕ) (wanted seen : List ℕ) where
         pub look-found : x ≡ true → Item.Attribute a ≡ findOf s name wanted
         look-found e = sym is ∙ look-ends (end-is ∙ e)
 
-        pub look-turn : x ≡ false → (mark : ℕ) → mark ≡ markOf (bytes s (a .name)) → mark < length seen → Walked s name (Onward s wanted) (set seen mark 1) (a .next)
+        pub look-turn : x ≡ false → (mark : ℕ) → mark ≡ markOf (length seen) (bytes s (a .name)) → mark < length seen → Walked s name (Onward s wanted) (set seen mark 1) (a .next)
         look-turn e mark f m =
             walk-turn s name (Onward s wanted) seen from v item t a is mark f m (ap (isEnd s wanted) (sym said-is) ∙ end-is ∙ e)
 
-pub ruleset looks = (needs, search-no-name, look-start, look-nothing, look-refused, look-less, look-found, look-turn)
+pub ruleset looks = (needs, marks-still, search-no-name, look-start, look-nothing, look-refused, look-less, look-found, look-turn)

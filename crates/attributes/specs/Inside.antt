@@ -1,8 +1,8 @@
 -- What routines inside this crate promise those that call them. No promise of another crate names what stands here.
-use Prim.Native.Nat.{ℕ, _+_, _*_, _/_, _%_}
+use Prim.Native.Nat.{ℕ, _+_, _*_, _/_, _%_, _≤_, _<_}
 use mathlib.Core.Path.{_≡_}
 use mathlib.Core.List.{List, [], _∷_}
-use lib.ListN.{getD}
+use lib.ListN.{length, getD}
 use Rattle.white.specs.White.{nameLen}
 use Rattle.attributes.specs.declared.item.Attribute.{Attribute}
 use Rattle.attributes.specs.declared.item.Item.{Item}
@@ -12,19 +12,21 @@ use Rattle.attributes.specs.Tag.{place, said, readBy, useIn}
 
 -- ---- marks: the same names have the same mark
 
-abbrev pub marks : ℕ
-marks = 512
+-- how many marks there may be
+pub record Marks (marks : ℕ) : Type 0 where
+  pub some : 0 < marks
+  pub most : marks ≤ 65536
 
 unfoldable pub mixed : ℕ → List ℕ → ℕ
 mixed mark [] = mark
 mixed mark (b ∷ bs) = mixed ((mark + b) * 0x9E3779B1 % 0x100000000) bs
 
-unfoldable pub markOf : List ℕ → ℕ
-markOf name = mixed 0 name / 0x800000
+unfoldable pub markOf : ℕ → List ℕ → ℕ
+markOf marks name = mixed 0 name * marks / 0x100000000
 
 -- a name without a mark is none of those before it
 abbrev pub Marked : List ℕ → List Attribute → List ℕ → Type 0
-Marked s before seen = (name : List ℕ) → getD seen (markOf name) 0 ≡ 0 → useIn s before name ≡ Use.New
+Marked s before seen = (name : List ℕ) → getD seen (markOf (length seen) name) 0 ≡ 0 → useIn s before name ≡ Use.New
 
 -- ---- places
 

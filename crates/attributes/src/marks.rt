@@ -4,17 +4,26 @@ use ground::part;
 ghost use mathlib.Core.Path.{_≡_};
 ghost use Prim.Native.Nat.{_<_};
 ghost use Rattle.attributes.specs.Tag.{bytes};
-ghost use Rattle.attributes.specs.Inside.{markOf, marks};
+ghost use Rattle.attributes.specs.Inside.{Marks, markOf};
 
-// How many marks there are.
-pub const MARKS: usize = 512;
+// How many marks a table has, by how many bytes the content has: the table is cleared at each call.
+pub const FEW: usize = 512;
+
+pub const FEW_BYTES: usize = 512;
+
+pub const SOME: usize = 8192;
+
+pub const SOME_BYTES: usize = 4096;
+
+pub const MANY: usize = 65536;
 
 // An odd number below 2^32 by which a byte changes all higher bits of a mark.
 const FACTOR: usize = 0x9E37_79B1;
 
-// The mark of a name.
-pub fn mark_of(content: &[u8], own: Extent) -> usize
-    ensures { λ r. ⌜ (r ≡ markOf (bytes (now (content .entry)) own)) × (r < marks) ⌝ }
+// The mark of a name, of so many.
+pub fn mark_of(content: &[u8], own: Extent, marks: usize) -> usize
+    requires { ⌜ Marks marks ⌝ }
+    ensures { λ r. ⌜ (r ≡ markOf marks (bytes (now (content .entry)) own)) × (r < marks) ⌝ }
 {
     let from = own.from;
     let to = own.to;
@@ -25,7 +34,7 @@ pub fn mark_of(content: &[u8], own: Extent) -> usize
         mark = (mark + wide(name[i])) * FACTOR % 0x1_0000_0000;
         i += 1;
     }
-    mark / 0x80_0000
+    mark * marks / 0x1_0000_0000
 }
 
 fn wide(b: u8) -> usize

@@ -3,7 +3,6 @@ use crate::item::Extent;
 use crate::item::Fault;
 use crate::item::Item;
 use crate::item::refused;
-use crate::marks::MARKS;
 use crate::marks::mark_of;
 use crate::name::Named;
 use crate::name::name_at;
@@ -12,8 +11,9 @@ use crate::shape::shape_at;
 use ground::part;
 use ground::same;
 ghost use mathlib.Core.Path.{_≡_};
+ghost use lib.ListN.{length};
 ghost use Rattle.attributes.specs.Tag.{bytes};
-ghost use Rattle.attributes.specs.Inside.{UseTold, ItemTold};
+ghost use Rattle.attributes.specs.Inside.{Marks, UseTold, ItemTold};
 
 pub enum Use {
     // The name was used here first.
@@ -22,14 +22,15 @@ pub enum Use {
 }
 
 // The attribute at `at`, to which reading comes from the end of a name with `name` bytes. `seen` has the marks of the names before it.
-pub fn item_at(content: &[u8], name: usize, at: usize, seen: &[u8; MARKS]) -> Item
+pub fn item_at(content: &[u8], name: usize, at: usize, seen: &[u8]) -> Item
+    requires { ⌜ Marks (length (now seen)) ⌝ }
     ensures { λ r. ⌜ ItemTold (now (content .entry)) name at (now (seen .entry)) r ⌝ }
 {
     match name_at(content, at) {
         Named::Nothing => Item::Nothing,
         Named::Refused(refusal) => Item::Refused(refusal),
         Named::Name(own) => {
-            let mark = mark_of(content, own);
+            let mark = mark_of(content, own, seen.len());
             if seen[mark] == 0 {
                 return named(content, own);
             }

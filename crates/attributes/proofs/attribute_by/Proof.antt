@@ -1,20 +1,20 @@
--- `attribute` meets its contract. The invariant: reading comes to this place, the names before it are marked, and no place before it is `at`. Assumes nothing.
+-- `attribute_by` meets its contract. The invariant: reading comes to this place, the names before it are marked, and no place before it is `at`. Assumes nothing.
 use Prim.Native.Nat.{_-_}
 use mathlib.Core.Path.{_≡_}
 use lib.ListN.{length}
-use Rattle.attributes.specs.Inside.{marks}
+use Rattle.attributes.specs.Inside.{Marks}
 use Rattle.attributes.proofs.Walks.{Elsewhere, Walked, goes}
-use Rattle.attributes.proofs.attribute.Statement.{statement}
-use Rattle.attributes.proofs.attribute.Tie as tie
+use Rattle.attributes.proofs.attribute_by.Statement.{statement}
+use Rattle.attributes.proofs.attribute_by.Tie as tie
 
 abbrev Inv-loop : tie.InvT-loop
-Inv-loop content name at seen₀ from₀ seen from = (length seen ≡ marks) × Walked content name (Elsewhere content at) seen from
+Inv-loop content name at seen₀ from₀ seen from = (length seen ≡ length seen₀) × Marks (length seen) × Walked content name (Elsewhere content at) seen from
 
 abbrev μ-loop : tie.MeasureT-loop
 μ-loop content name at seen₀ from₀ seen from = at - from
 
-pub attribute-spec : {M : Type 1} → statement M
-attribute-spec =
+pub attribute-by-spec : {M : Type 1} → statement M
+attribute-by-spec =
     tie.close
     (tie.spec
     Inv-loop
@@ -28,8 +28,6 @@ attribute-spec =
     (λ c κs. search goes)
     (λ c. search goes)
     (λ c. search goes)
-    (λ c κs. search goes)
-    (λ c. search goes)
     (λ c. search goes)
     (λ c κs. search goes)
     (λ c. search goes)
@@ -37,5 +35,11 @@ attribute-spec =
     (λ c. search goes)
     (λ c κs. search goes)
     (λ c. search goes)
+    (λ c. search goes)
+    (λ c. search goes)
     (λ c κs. search goes)
+    (λ c. search goes)
+    (λ c. search goes)
+    (λ c κs. search goes)
+    (λ c. search goes)
     (λ c. search goes))

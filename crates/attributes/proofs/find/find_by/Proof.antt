@@ -1,20 +1,20 @@
--- `find` meets its contract. The invariant: reading comes to this place, the names before it are marked, and no answer before it ends the search. Assumes nothing.
+-- `find_by` meets its contract. The invariant: reading comes to this place, the names before it are marked, and no answer before it ends the search. Assumes nothing.
 use Prim.Native.Nat.{_-_}
 use mathlib.Core.Path.{_≡_}
 use lib.ListN.{length}
-use Rattle.attributes.specs.Inside.{marks}
+use Rattle.attributes.specs.Inside.{Marks}
 use Rattle.attributes.proofs.Walks.{Onward, Walked, looks}
-use Rattle.attributes.proofs.find.find.Statement.{statement}
-use Rattle.attributes.proofs.find.find.Tie as tie
+use Rattle.attributes.proofs.find.find_by.Statement.{statement}
+use Rattle.attributes.proofs.find.find_by.Tie as tie
 
 abbrev Inv-loop : tie.InvT-loop
-Inv-loop content name wanted seen₀ from₀ seen from = (length seen ≡ marks) × Walked content name (Onward content wanted) seen from
+Inv-loop content name wanted seen₀ from₀ seen from = (length seen ≡ length seen₀) × Marks (length seen) × Walked content name (Onward content wanted) seen from
 
 abbrev μ-loop : tie.MeasureT-loop
 μ-loop content name wanted seen₀ from₀ seen from = length content - from
 
-pub find-spec : {M : Type 1} → statement M
-find-spec =
+pub find-by-spec : {M : Type 1} → statement M
+find-by-spec =
     tie.close
     (tie.spec
     Inv-loop
@@ -29,8 +29,11 @@ find-spec =
     (λ c. search looks)
     (λ c. search looks)
     (λ c. search looks)
+    (λ c. search looks)
+    (λ c. search looks)
     (λ c κs. search looks)
     (λ c κs. search looks)
+    (λ c. search looks)
     (λ c. search looks)
     (λ c κs. search looks)
     (λ c. search looks)
