@@ -1,5 +1,6 @@
-// The cases of the reader: the calls that a line makes.
+// The cases of the reader, of the column reader and of a tag's attributes: the calls that a line makes.
 use crate::says::say_column;
+use crate::says::say_item;
 use crate::says::say_names;
 use crate::says::say_reader;
 use crate::says::say_slots;
@@ -43,11 +44,12 @@ const PHASES: usize = 6;
 pub fn answer(text: &[u8]) {
     let end = word(text, 0);
     let form = ground::part(text, 0, end);
-    match number_of(form, b"run;state;content;column") {
+    match number_of(form, b"run;state;content;column;attributes") {
         0 => run_case(text, end),
         1 => state_case(text, end),
         2 => content_case(text, end),
         3 => column_case(text, end),
+        4 => attributes_case(text, end),
         _ => {}
     }
 }
@@ -210,4 +212,29 @@ fn times_of(document: &[u8], stack: &mut [usize], times: &mut [usize]) {
     say_slots(times);
     say(b"  stack");
     say_slots(stack);
+}
+
+// The attributes of a tag, whose content stands after the space at `from`.
+fn attributes_case(text: &[u8], from: usize) {
+    let mut space = io::buffer();
+    let n = bytes(text, from, &mut space);
+    attributes_of(&space[..n]);
+}
+
+// Calls from the name on, up to the first that gives no attribute: there are fewer attributes than bytes.
+fn attributes_of(content: &[u8]) {
+    let name = white::name_len(content, 0, content.len());
+    let mut at = name;
+    let mut left = content.len() + 1;
+    while 0 < left {
+        left -= 1;
+        let item = attributes::attribute(content, name, at);
+        say_item(b"  ", item);
+        put(b'\n');
+        let values = item.values();
+        if values.found == 0 {
+            break;
+        }
+        at = values.next;
+    }
 }

@@ -1,4 +1,5 @@
-// The cases of the functions below the reader: a line names one, which is called on its numbers and bytes.
+// The cases of the functions below the reader, and of those for attributes: a line names one, which is called on its numbers and bytes.
+use crate::says::say_item;
 use lines::line::bytes;
 use lines::line::number;
 use lines::line::say;
@@ -33,7 +34,7 @@ pub fn answer(text: &[u8]) {
 fn function(name: &[u8]) -> usize {
     number_of(
         name,
-        b"part;byte_at;is_whitespace;name_len;trim_end;trim_start;utf8;starts_with;same;element;pi;comment;cdata;text;reference;pair",
+        b"part;byte_at;is_whitespace;name_len;trim_end;trim_start;utf8;starts_with;same;element;pi;comment;cdata;text;reference;pair;attribute;find",
     )
 }
 
@@ -56,6 +57,8 @@ fn call(function: usize, s: &[u8], from: usize, to: usize, other: &[u8]) {
         13 => say_first(parser::text::text_end(s, from)),
         14 => say_first(parser::reference::reference_end(s, from)),
         15 => say_first(parser::hyphens::pair_end(s, from)),
+        16 => say_item(b" = ", attributes::attribute(s, from, to)),
+        17 => say_item(b" = ", attributes::find::find(s, from, other)),
         _ => {}
     }
 }

@@ -1,10 +1,11 @@
 // Runs cases from standard input, a case to a line, and writes each line with what is answered. A line is one of
-//   NAME NUMBER NUMBER BYTES                                              a function below the reader, whose answer stands behind the line
+//   NAME NUMBER NUMBER BYTES                                              a function below the reader or of attributes, whose answer stands behind the line
 //   run SETTINGS SLOTS BYTES                                              every call up to end of file, one more, and the counts
 //   state SETTINGS PHASE POSITION DEPTH LENGTH SLOTS VALUES BYTES         one call, from the state given
 //   content FROM TO BYTES                                                 the bytes of a span
 //   column ROOM SLOTS BYTES                                               the times of a document, in ROOM slots that hold 9999 before
-// The answers to the last four stand below the line. NAME is one that `leaves.rt` has. A function that compares has its other bytes in place of the
+//   attributes BYTES                                                      the attributes of a tag's content, from the name on
+// The answers to the last five stand below the line. NAME is one that `leaves.rt` has. A function that compares has its other bytes in place of the
 // second number. SETTINGS are letters of `settings.rt` or `-`. PHASE has a `!` in front where the mark is on, in the answers too. SLOTS is how many slots
 // the lent stack has, at most as many as `calls.rt` has (for `column` 16, as of ROOM), and VALUES, with commas or `-`, what its first ones hold. In BYTES `\` and two hexadecimal digits
 // stand for a byte. Any other line is written as it is. The cases together have fewer than 65,536 bytes.

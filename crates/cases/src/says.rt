@@ -1,8 +1,10 @@
 // How an answer and what a call leaves are written.
+use attributes::item::Item;
 use columns::Summary;
 use lines::line::put;
 use lines::line::put_number;
 use lines::line::say;
+use lines::line::say_number;
 use lines::line::say_numbers;
 use lines::settings::say_settings;
 use lines::words::say_place;
@@ -125,4 +127,29 @@ pub fn say_column(summary: Summary) {
         say_refusal(outcome.values());
     }
     say(b" |");
+}
+
+// An attribute's spans and where to go on, none, or a refusal's number, place and what else it tells.
+pub fn say_item(front: &[u8], item: Item) {
+    let values = item.values();
+    let number = values.number;
+    let name = values.name;
+    let value = values.value;
+    let numbers = [name.from, name.to, value.from, value.to, values.next];
+    say(front);
+    if values.found == 1 {
+        say_numbers(b"name #..# value #..# next #", &numbers);
+        return;
+    }
+    if number == 0 {
+        say(b"nothing");
+        return;
+    }
+    let told = [number, values.place];
+    say_numbers(b"refused # #", &told);
+    match number {
+        22 => say_number(b" quote ", values.quote),
+        24 => say_number(b" first ", values.first),
+        _ => {}
+    }
 }
