@@ -1,13 +1,15 @@
 // Replays what quick-xml 0.42.0 answered: reads cases from standard input, a case to a line, and writes each line with a line for every call up to end of
-// file below it. The file `stdout` beside this program is what the crate said (`tools/record` writes both files), and the check compares the two. A line is
+// file, or up to the end of the attributes, below it. The file `stdout` beside this program is what the crate said (`tools/record` writes both files), and the check compares the two. A line is
 //   SETTINGS SLOTS BYTES                          a document that both answer alike
 //   difference TAG SETTINGS SLOTS BYTES           one that they do not: TAG is a row of docs/DIFFERENCES.md, or some with `+` between them
 //   added SETTINGS SLOTS BYTES                    one that ends with names open, where these are checked: ours is 18 where the crate has Eof
+//   attributes TAG BYTES                          the content of a tag: TAG is `-` where both answer alike, else a row of docs/DIFFERENCES.md
 // SETTINGS, SLOTS and BYTES are written as for `cases`. Where a call differs, a line that begins with `crate` stands above our own and has what the crate
-// says, worked out from our answer as that row states. A line that begins with `#` is passed over. The cases have fewer than 262,144 bytes.
+// says, worked out from our answer as that row states. A line that begins with `#` is passed over. The cases have fewer than 327,680 bytes.
 mod calls;
 mod place;
 mod says;
+mod tags;
 
 use libc::STDIN_FILENO;
 use lines::line;
@@ -15,16 +17,16 @@ ghost use mathlib.Core.Path.{_≡_};
 ghost use lib.ListN.{length};
 
 // Room for the cases.
-fn room() -> [u8; 262144]
-    ensures { λ r. ⌜ 262144 ≡ length r ⌝ }
+fn room() -> [u8; 327680]
+    ensures { λ r. ⌜ 327680 ≡ length r ⌝ }
 {
-    [0; 262144]
+    [0; 327680]
 }
 
 fn main() {
     let mut buffer = room();
     let n = io::read_full(STDIN_FILENO, &mut buffer);
-    if 262144 <= n {
+    if 327680 <= n {
         line::say(b"too long\n");
         return;
     }
@@ -54,6 +56,10 @@ fn answer(text: &[u8]) {
     }
     if ground::starts_with(text, 0, b"added ") {
         calls::case(text, line::word(text, 0));
+        return;
+    }
+    if ground::starts_with(text, 0, b"attributes ") {
+        tags::case(text, line::word(text, 0));
         return;
     }
     calls::case(text, 0);

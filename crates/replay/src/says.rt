@@ -1,4 +1,4 @@
-// The line of a call: the answer, and where it leaves the reader.
+// The line of a call: the answer, and of an event where it leaves the reader.
 use lines::line::put;
 use lines::line::put_number;
 use lines::line::say;
@@ -104,4 +104,25 @@ fn trimmed_text(values: Values, reader: Reader, document: &[u8], first: u8) {
         say(b"  crate ");
         say_event(values, reader, content(document, kept));
     }
+}
+
+// An attribute's spans and bytes, none, or a refusal's number and place, the quote of 22 and the first place of 24.
+pub fn say_item(front: &[u8], values: attributes::item::Values, content: &[u8]) {
+    let number = values.number;
+    let name = values.name;
+    let value = values.value;
+    let spans = [name.from, name.to, value.from, value.to];
+    let told = [number, values.place, values.quote, values.first];
+    say(front);
+    if values.found == 1 {
+        say_numbers(b"attribute # # # # ", &spans);
+        say_bytes(ground::part(content, name.from, name.to));
+        put(b' ');
+        say_bytes(ground::part(content, value.from, value.to));
+    } else if number == 0 {
+        say(b"none");
+    } else {
+        say_numbers(b"refused # # # #", &told);
+    }
+    put(b'\n');
 }
