@@ -129,7 +129,7 @@ pub fn say_column(summary: Summary) {
     say(b" |");
 }
 
-// An attribute's spans and where to go on, none, or a refusal's number, place and what else it tells.
+// An attribute's spans and where to go on, none, or a refusal's number and place, with the quote and the first place that it tells.
 pub fn say_item(front: &[u8], item: Item) {
     let values = item.values();
     let number = values.number;
@@ -147,9 +147,10 @@ pub fn say_item(front: &[u8], item: Item) {
     }
     let told = [number, values.place];
     say_numbers(b"refused # #", &told);
-    match number {
-        22 => say_number(b" quote ", values.quote),
-        24 => say_number(b" first ", values.first),
-        _ => {}
+    if values.quote != 0 {
+        say_number(b" quote ", values.quote);
+    }
+    if values.first != 0 {
+        say_number(b" first ", values.first);
     }
 }
