@@ -1,5 +1,6 @@
 // Replays what quick-xml 0.42.0 answered: reads cases from standard input, a case to a line, and writes each line with a line for every call up to end of
-// file, or up to the end of the attributes, below it. The file `stdout` beside this program is what the crate said (`tools/record` writes both files), and the check compares the two. A line is
+// file, or up to the end of a tag's attributes, below it. The file `stdout` beside this program is what the crate said (`tools/record` writes both files),
+// and the check compares the two. A line is
 //   SETTINGS SLOTS BYTES                          a document that both answer alike
 //   difference TAG SETTINGS SLOTS BYTES           one that they do not: TAG is a row of docs/DIFFERENCES.md, or some with `+` between them
 //   added SETTINGS SLOTS BYTES                    one that ends with names open, where these are checked: ours is 18 where the crate has Eof
