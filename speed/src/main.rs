@@ -2,6 +2,7 @@
 
 #![deny(unsafe_code)]
 
+mod attributes;
 mod check;
 mod clock;
 mod grid;
@@ -23,7 +24,7 @@ use std::process::ExitCode;
 use std::{env, fs};
 
 const USAGE: &str = "\
-usage: speed [--quick | --rounds N] [--trim] [--beside NAME=PATH] [--also NAME=PATH].. | (--growth | --large) [--also NAME=PATH].. | --describe | --write FOLDER";
+usage: speed [--quick | --rounds N] [--trim] [--beside NAME=PATH] [--also NAME=PATH].. | (--growth | --large) [--also NAME=PATH].. | --attributes | --describe | --write FOLDER";
 
 /// How many rounds there are: enough for the times to settle, and for a look.
 const ROUNDS: usize = 1000;
@@ -33,6 +34,7 @@ enum Wish {
     Table { trim: bool, rounds: usize, beside: Option<Build>, also: Vec<Build> },
     Growth { also: Vec<Build> },
     Large { also: Vec<Build> },
+    Attributes,
     Describe,
     Write(PathBuf),
 }
@@ -59,6 +61,7 @@ fn wish() -> Option<Wish> {
             "--trim" => trim = true,
             "--beside" if beside.is_none() => beside = Some(build(&arguments.next()?)?),
             "--also" => also.push(build(&arguments.next()?)?),
+            "--attributes" => return Some(Wish::Attributes),
             "--describe" => return Some(Wish::Describe),
             "--write" => return Some(Wish::Write(arguments.next()?.into())),
             _ => return None,
@@ -80,6 +83,10 @@ fn main() -> ExitCode {
         Wish::Table { trim, rounds, beside, also } => table(trim, rounds, beside, also),
         Wish::Growth { also } => growth(also),
         Wish::Large { also } => large(also),
+        Wish::Attributes => {
+            machine::print();
+            attributes::run()
+        }
         Wish::Describe => {
             inputs::describe();
             Ok(())

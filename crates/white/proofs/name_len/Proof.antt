@@ -20,12 +20,12 @@ name-len-spec =
     (tie.spec
     Inv-loop
     μ-loop
-    (λ c κs. search (until-turns, run-past isWhite, run-here isWhite, run-turn isWhite))
+    (λ c κs. search until-turns)
+    (λ c. search (until-turns, run-past isWhite, run-here isWhite))
+    (λ c. search (until-turns, run-past isWhite, run-here isWhite, run-turn isWhite))
+    (λ c κs. search until-turns)
     (λ c. search (until-turns, run-past isWhite, run-here isWhite, run-turn isWhite))
     (λ c. search (until-turns, run-past isWhite, run-here isWhite, run-turn isWhite))
-    (λ c κs. search (until-turns, run-past isWhite, run-here isWhite, run-turn isWhite))
     (λ c. search (until-turns, run-past isWhite, run-here isWhite, run-turn isWhite))
-    (λ c. search (until-turns, run-past isWhite, run-here isWhite, run-turn isWhite))
-    (λ c. search (until-turns, run-past isWhite, run-here isWhite, run-turn isWhite))
-    (λ c. search (until-turns, run-past isWhite, run-here isWhite, run-turn isWhite))
-    (λ c. search (until-turns, run-past isWhite, run-here isWhite, run-turn isWhite)))
+    (λ c. search (until-turns, run-past isWhite, run-here isWhite))
+    (λ c. search (until-turns, run-past isWhite, run-here isWhite)))

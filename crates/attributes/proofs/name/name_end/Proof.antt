@@ -21,11 +21,11 @@ name-end-spec =
     (tie.spec
     Inv-loop
     μ-loop
+    (λ c. search name-turns)
+    (λ c. search (name-turns, run-past endsName, run-here endsName, run-turn endsName))
+    (λ c κs. search name-turns)
     (λ c. search (name-turns, run-past endsName, run-here endsName, run-turn endsName))
     (λ c. search (name-turns, run-past endsName, run-here endsName, run-turn endsName))
-    (λ c κs. search (name-turns, run-past endsName, run-here endsName, run-turn endsName))
     (λ c. search (name-turns, run-past endsName, run-here endsName, run-turn endsName))
-    (λ c. search (name-turns, run-past endsName, run-here endsName, run-turn endsName))
-    (λ c. search (name-turns, run-past endsName, run-here endsName, run-turn endsName))
-    (λ c. search (name-turns, run-past endsName, run-here endsName, run-turn endsName))
-    (λ c. search (name-turns, run-past endsName, run-here endsName, run-turn endsName)))
+    (λ c. search (name-turns, run-past endsName, run-here endsName))
+    (λ c. search (name-turns, run-past endsName, run-here endsName)))
