@@ -12,7 +12,7 @@ use Rattle.ground.specs.Bytes.{lt}
 use Rattle.ground.specs.Equal.{same}
 use Rattle.ground.proofs.Choices.{pick-cases}
 use Rattle.white.specs.White.{isWhite, notWhite, nameLen}
-use Rattle.white.proofs.Runs.{until-within, until-inside}
+use Rattle.white.proofs.Runs.{until-within}
 use Rattle.attributes.specs.declared.equals.Equals.{Equals}
 use Rattle.attributes.specs.declared.item.Extent.{Extent}
 use Rattle.attributes.specs.declared.item.Attribute.{Attribute}
@@ -25,7 +25,7 @@ use Rattle.attributes.specs.Answers.{faultNumber, faultFirst, badState, 
 use Rattle.attributes.specs.Grammar.{isQuote, equalsSign, byte, past, nameEnd, valueEnd, nameFrom, nameAt, equalsAt, quotedFrom, valueAt, withValue, withEquals, named}
 use Rattle.attributes.specs.Tag.{bytes, orElse, useIn, unlessUsed, withUse, itemAt, onAt, readBy, place, said, isAt, callsTo, attributeAt, firstCall, endsAt, findOf}
 use Rattle.attributes.specs.Words.{SpaceName, Sign, Quoted, Shaped, PlacesIn}
-use Rattle.attributes.proofs.Shapes.{NamedAs, EqualsAs, name-words, equals-words, an-attribute's-shape, shape-within}
+use Rattle.attributes.proofs.Shapes.{run-within, NamedAs, EqualsAs, name-words, equals-words, an-attribute's-shape, shape-within}
 use Rattle.attributes.proofs.Tags.{Went, went, on, stays, place-first, place-on, read-on, said-shape, use-on, use-none, an-attribute-read}
 
 module _ (s : List ℕ) where
@@ -49,7 +49,7 @@ module _ (s : List ℕ) where
 
   past-in : (at : ℕ) → at ≤ length s → past s at ≤ length s
   unfolding past
-  past-in at h = omega (arith, until-inside notWhite s at)
+  past-in at h = run-within notWhite s at h
 
   name-in : (at : ℕ) → at ≤ length s → NamedIn (nameAt s at)
   unfolding nameAt nameFrom

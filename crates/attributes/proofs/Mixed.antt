@@ -14,7 +14,7 @@ use Rattle.attributes.specs.Inside.{Marks, mixed, markOf}
 
 -- the loop stands at i of the name with what is mixed so far
 module _ (name : List ℕ) (i mark : ℕ) (v : mixed 0 name ≡ mixed mark (drop i name)) where
-  pub mark-turn : (b : ℕ) → i < length name → b ≡ getD name i 0 → mixed 0 name ≡ mixed ((mark + b) * 0x9E3779B1 % 0x100000000) (drop (i + 1) name)
+  pub mark-turn : (b : ℕ) → i < length name → b ≡ getD name i 0 → mixed 0 name ≡ mixed ((mark + b) * 0x93D765DD % 0x100000000) (drop (i + 1) name)
   unfolding mixed
   mark-turn b h e = v ∙ rw (drop-next name i h, ← e) refl
 

@@ -1,4 +1,4 @@
--- The definitions of specs/Grammar say what the words say: an attribute is answered exactly where the bytes have the grammar's shape. Assumes nothing.
+-- The definitions of specs/Grammar say what the words say: an attribute stands exactly where the bytes have the grammar's shape, whatever names came before. Assumes nothing.
 use Prim.Native.Nat.{ℕ, zero, suc, _+_, _-_, _≤_, _<_}
 use mathlib.Core.Path.{_≡_, refl, sym, ap, _∙_}
 use mathlib.Core.List.{List}
@@ -44,7 +44,7 @@ module _ (test : ℕ → Bool) (s : List ℕ) where
       let e : from + (k - from) ≡ k = omega arith in
       ap (λ (n : ℕ). test (byte s n)) (sym e) ∙ until-byte test s from (k - from) (omega arith) .1
 
-  run-within : (from : ℕ) → from ≤ length s → from + until test (drop from s) ≤ length s
+  pub run-within : (from : ℕ) → from ≤ length s → from + until test (drop from s) ≤ length s
   run-within from h = omega (arith, until-inside test s from)
 
   -- where it ends in the content, a byte passes
@@ -256,7 +256,7 @@ module _ (s : List ℕ) (at : ℕ) where
       rw (here, v .quote, ← v .first, to, lt-leb (length s) (value .to) (v .within), v .closed, quote-not-less quote (v .quote)) refl
 
 -- what has the grammar's shape is answered as an attribute
-shape-back : (s : List ℕ) (at : ℕ) (a : Attribute) → Shaped s at a → shapeAt s at ≡ Item.Attribute a
+pub shape-back : (s : List ℕ) (at : ℕ) (a : Attribute) → Shaped s at a → shapeAt s at ≡ Item.Attribute a
 unfolding shapeAt named
 shape-back s at a w =
     let ends = sign-ends s (a .name .to) (w .behind) (w .equals) in

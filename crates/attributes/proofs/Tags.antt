@@ -58,6 +58,22 @@ module _ (s : List ℕ) (before : List Attribute) (at : ℕ) (a : Attribute) whe
   unfolding itemAt
   an-attribute-read e = read-named (nameAt s at) refl e
 
+-- and what stands there with a new name is read
+module _ (s : List ℕ) (before : List Attribute) (at : ℕ) (a : Attribute) where
+  answer-used : (name : Extent) (u : Use) → u ≡ Use.New → named s name ≡ Item.Attribute a → unlessUsed s name u ≡ Item.Attribute a
+  answer-used name (Use.At first) f e = let z : _≡_ {A = ℕ} 0 1 = cc in absurd (omega arith)
+  answer-used name Use.New f e = e
+
+  answer-named : (q : Named) → withName s q ≡ Item.Attribute a → useIn s before (bytes s (a .name)) ≡ Use.New → withUse s before q ≡ Item.Attribute a
+  answer-named Named.Nothing e n = e
+  answer-named (Named.Refused x) e n = e
+  answer-named (Named.Name name) e n =
+      answer-used name (useIn s before (bytes s name)) (ap (λ (x : Extent). useIn s before (bytes s x)) (sym (named-name s name a e)) ∙ n) e
+
+  pub an-attribute-answered : shapeAt s at ≡ Item.Attribute a → useIn s before (bytes s (a .name)) ≡ Use.New → itemAt s before at ≡ Item.Attribute a
+  unfolding shapeAt itemAt
+  an-attribute-answered e n = answer-named (nameAt s at) e n
+
 -- ---- one more call
 
 module _ (s : List ℕ) where

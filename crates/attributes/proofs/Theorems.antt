@@ -1,9 +1,9 @@
 -- What holds of attributes, in the words of document 02. Any content. Assumes nothing.
 use Prim.Native.Nat.{ℕ, zero, suc, _+_, _*_, _/_, _≤_, _<_}
 use mathlib.Core.Path.{_≡_, refl, sym, ap, subst, _∙_}
-use mathlib.Core.List.{List, [], _∷_}
+use mathlib.Core.List.{List}
 use mathlib.Core.Bool.{Bool, true, false}
-use mathlib.Core.Logic.{_↔_, _⊎_, inl, inr, ⊎-elim}
+use mathlib.Core.Logic.{_↔_, _⊎_, inl, inr}
 use native.Mathlib.Omega.{arith}
 use native.Mathlib.Decide.{decLt}
 use lib.ListN.{length}
@@ -11,20 +11,18 @@ use lib.Dec.{eqb}
 use borrow.Author.Tests.{eq-eqb, ne-eqb, eqb-true, eqb-false}
 use Rattle.ground.specs.Choose.{pick}
 use Rattle.ground.specs.Equal.{same}
-use Rattle.ground.proofs.Choices.{clash, pick-cases}
+use Rattle.ground.proofs.Choices.{clash, must-fail, pick-cases}
 use Rattle.ground.proofs.Equal.{same-is}
 use Rattle.white.specs.White.{nameLen}
 use Rattle.attributes.specs.declared.item.Attribute.{Attribute}
-use Rattle.attributes.specs.declared.item.Fault.{Fault}
-use Rattle.attributes.specs.declared.item.Refusal.{Refusal}
 use Rattle.attributes.specs.declared.item.Item.{Item}
 use Rattle.attributes.specs.declared.used.Use.{Use}
 use Rattle.attributes.specs.Answers.{badState, valuesOf}
 use Rattle.attributes.specs.Tag.{bytes, orElse, useIn, itemAt, onAt, readBy, place, said, isAt, callsTo, attributeAt, isEnd, endsAt, firstCall, findOf}
 use Rattle.attributes.specs.Words.{Shaped, Passed, Searched}
-use Rattle.attributes.proofs.Shapes.{shape-rises, shape-within}
-use Rattle.attributes.proofs.Tags.{Went, went, on, stays, place-first, place-on, place-rises, read-on, read-none, read-said, said-shape, use-on, use-stays}
-use Rattle.attributes.proofs.Walks.{answer-never, answer-comes, first-passes, first-before}
+use Rattle.attributes.proofs.Shapes.{shape-back, shape-within}
+use Rattle.attributes.proofs.Tags.{Went, went, on, stays, place-first, place-on, place-rises, read-on, read-none, read-said, said-shape, use-on, use-none, use-stays, read-at, an-attribute-answered}
+use Rattle.attributes.proofs.Walks.{answer-comes, first-passes, first-before}
 use Rattle.attributes.proofs.Bounds.{place-in, said-not-17}
 
 module _ (s : List ℕ) where
@@ -48,14 +46,14 @@ module _ (s : List ℕ) where
       by (on b f) r = ap length (read-on s k b f) ∙ ap suc (r b f)
       by (stays n f) r = absurd (n a (ap (λ (b : List Attribute). itemAt s b (onAt s b)) (sym f) ∙ e))
 
-  -- THEOREM: the attribute of call k + 1 ends (k + 1) * 5 bytes or more behind the content's first: a tag has at most length / 5 attributes
-  pub a-tag-has-at-most-a-fifth-of-its-bytes : (k : ℕ) (a : Attribute) → said s k ≡ Item.Attribute a → (k + 1) * 5 ≤ length s
-  a-tag-has-at-most-a-fifth-of-its-bytes k a e =
+  -- THEOREM: where call k + 1 gives an attribute, the content has (k + 1) * 5 bytes at least: a tag of n bytes has at most n / 5 attributes
+  pub a-tag-of-n-bytes-has-at-most-a-fifth-of-n-attributes : (k : ℕ) (a : Attribute) → said s k ≡ Item.Attribute a → (k + 1) * 5 ≤ length s
+  a-tag-of-n-bytes-has-at-most-a-fifth-of-n-attributes k a e =
       omega (arith, read-all k a e, ap length (read-on s k a e), read-size (suc k), place-in s (suc k))
 
   -- THEOREM: "none or a refusal comes by then": call number length / 5 + 1 gives no attribute
   pub none-or-a-refusal-comes-by-then : (a : Attribute) → said s (length s / 5) ≡ Item.Attribute a → ⊥
-  none-or-a-refusal-comes-by-then a e = omega (arith, a-tag-has-at-most-a-fifth-of-its-bytes (length s / 5) a e)
+  none-or-a-refusal-comes-by-then a e = omega (arith, a-tag-of-n-bytes-has-at-most-a-fifth-of-n-attributes (length s / 5) a e)
 
 -- ---- 17
 
@@ -91,7 +89,6 @@ wrong s name at = by (eqb (nameLen s) name) refl (isAt s at (callsTo s at)) refl
 module _ (s : List ℕ) where
   -- ---- names
 
-  -- THEOREM: "names answered in one tag are pairwise different by their bytes"
   module _ (w : List ℕ) where
     use-found : (j : ℕ) (a : Attribute) → said s j ≡ Item.Attribute a → bytes s (a .name) ≡ w → useIn s (readBy s (suc j)) w ≡ Use.New → ⊥
     use-found j a e f n = by (useIn s (readBy s j) w) (sym (ap (λ (b : List Attribute). useIn s b w) (read-on s j a e) ∙ use-on s w a (readBy s j) ∙ rw (same-is (bytes s (a .name)) w .1 f) refl) ∙ n)
@@ -112,6 +109,7 @@ module _ (s : List ℕ) where
   later-differs j k a b h e f g =
       use-found (bytes s (b .name)) j a e g (use-earlier (bytes s (b .name)) (suc j) k (omega arith) (read-said s k b f .new))
 
+  -- THEOREM: "names answered in one tag are pairwise different by their bytes"
   pub names-are-pairwise-different : (j k : ℕ) (a b : Attribute) → said s j ≡ Item.Attribute a → said s k ≡ Item.Attribute b → bytes s (a .name) ≡ bytes s (b .name) → j ≡ k
   names-are-pairwise-different j k a b e f g = elim (decLt j k) [
     | yes h ↦ absurd (later-differs j k a b h e f g)
@@ -124,20 +122,23 @@ module _ (s : List ℕ) where
   -- ---- which call answers what
 
   -- THEOREM: at a place that so many calls reach, the next one's answer
-  pub a-reached-place-gives-the-next-answer : (k : ℕ) → k ≤ length s → attributeAt s (nameLen s) (place s k) ≡ said s k
-  a-reached-place-gives-the-next-answer k l = sym (answer-comes s (nameLen s) (place s k) refl k refl l)
+  pub a-reached-place-gives-the-next-answer : (k : ℕ) → attributeAt s (nameLen s) (place s k) ≡ said s k
+  a-reached-place-gives-the-next-answer k =
+      let f = calls-few s k in
+      sym (answer-comes s (nameLen s) (place s k) refl (f .calls) (f .same) (omega (arith, f .few, place-in s (f .calls))))
+      ∙ ap (λ (b : List Attribute). itemAt s b (onAt s b)) (read-at s (f .calls) k (f .same))
 
   -- THEOREM: "17 never comes at the first call" where the name length is right
   pub the-first-call-is-never-17 : valuesOf (attributeAt s (nameLen s) (nameLen s)) .number ≡ 17 → ⊥
   the-first-call-is-never-17 e =
       said-not-17 s 0
-      (ap (λ (i : Item). valuesOf i .number) (sym (a-reached-place-gives-the-next-answer 0 (omega arith)) ∙ ap (attributeAt s (nameLen s)) (place-first s)) ∙ e)
+      (ap (λ (i : Item). valuesOf i .number) (sym (a-reached-place-gives-the-next-answer 0) ∙ ap (attributeAt s (nameLen s)) (place-first s)) ∙ e)
 
   -- THEOREM: "the place to go on": a call there answers what comes next, and not 17
   pub going-on-gives-the-next-answer : (k : ℕ) (a : Attribute) → said s k ≡ Item.Attribute a → attributeAt s (nameLen s) (a .next) ≡ said s (suc k)
   going-on-gives-the-next-answer k a e =
       ap (attributeAt s (nameLen s)) (sym (place-on s k a e))
-      ∙ a-reached-place-gives-the-next-answer (suc k) (omega (arith, a-tag-has-at-most-a-fifth-of-its-bytes s k a e))
+      ∙ a-reached-place-gives-the-next-answer (suc k)
 
   module _ (name at : ℕ) where
     -- an answer other than 17 is that of a call from the name, at its place
@@ -150,17 +151,15 @@ module _ (s : List ℕ) where
         (λ f. bad))
         (λ e. bad)
 
+    -- THEOREM: "17 first, at 0"
+    pub seventeen-is-at-0 : (nameLen s ≡ name → ⊥) ⊎ ((k : ℕ) → place s k ≡ at → ⊥) → attributeAt s name at ≡ badState
+    seventeen-is-at-0 (inl n) = answered (λ (i : Item). i ≡ badState) refl (λ k e f. absurd (n e))
+    seventeen-is-at-0 (inr n) = answered (λ (i : Item). i ≡ badState) refl (λ k e f. absurd (n k f))
+
     -- THEOREM: "17 .. if the name length isn't the one document 01 gives this content or the place to go on isn't one that reading from the name reaches", and only then
     pub seventeen-exactly-where-the-name-or-the-place-is-wrong : (valuesOf (attributeAt s name at) .number ≡ 17)
         ↔ ((nameLen s ≡ name → ⊥) ⊎ ((k : ℕ) → place s k ≡ at → ⊥))
-    seventeen-exactly-where-the-name-or-the-place-is-wrong = (there, back)
-      where
-        there : valuesOf (attributeAt s name at) .number ≡ 17 → (nameLen s ≡ name → ⊥) ⊎ ((k : ℕ) → place s k ≡ at → ⊥)
-        there e = wrong s name at e
-
-        back : (nameLen s ≡ name → ⊥) ⊎ ((k : ℕ) → place s k ≡ at → ⊥) → valuesOf (attributeAt s name at) .number ≡ 17
-        back (inl n) = answered (λ (i : Item). valuesOf i .number ≡ 17) refl (λ k e f. absurd (n e))
-        back (inr n) = answered (λ (i : Item). valuesOf i .number ≡ 17) refl (λ k e f. absurd (n k f))
+    seventeen-exactly-where-the-name-or-the-place-is-wrong = (wrong s name at, λ h. ap (λ (i : Item). valuesOf i .number) (seventeen-is-at-0 h))
 
     -- THEOREM: what is answered as an attribute has the grammar's shape
     pub an-answered-attribute-has-the-grammar's-shape : (a : Attribute) → attributeAt s name at ≡ Item.Attribute a → Shaped s at a
@@ -180,6 +179,29 @@ module _ (s : List ℕ) where
           omega (arith, w .next),
           shape-within s at a w,
         )
+
+  -- ---- an attribute, exactly
+
+  -- a name that no attribute before has is new
+  use-new : (w : List ℕ) (k : ℕ) → ((j : ℕ) (b : Attribute) → j < k → said s j ≡ Item.Attribute b → bytes s (b .name) ≡ w → ⊥) → useIn s (readBy s k) w ≡ Use.New
+  use-new w zero f = use-none s w
+  use-new w (suc k) f = by (went s k) (use-new w k (λ j b h. f j b (omega arith)))
+    where
+      by : Went s k → useIn s (readBy s k) w ≡ Use.New → useIn s (readBy s (suc k)) w ≡ Use.New
+      by (on a e) r =
+          ap (λ (b : List Attribute). useIn s b w) (read-on s k a e)
+          ∙ use-on s w a (readBy s k)
+          ∙ rw (r, must-fail (same (bytes s (a .name)) w) (λ g. f k a (omega arith) e (same-is (bytes s (a .name)) w .0 g))) refl
+      by (stays n e) r = ap (λ (b : List Attribute). useIn s b w) e ∙ r
+
+  -- THEOREM: a call gives an attribute exactly where the bytes have its shape and no attribute before has its name
+  pub an-attribute-exactly-where-its-shape-stands-with-a-new-name : (k : ℕ) (a : Attribute)
+      → (said s k ≡ Item.Attribute a)
+      ↔ (Shaped s (place s k) a × ((j : ℕ) (b : Attribute) → j < k → said s j ≡ Item.Attribute b → bytes s (b .name) ≡ bytes s (a .name) → ⊥))
+  an-attribute-exactly-where-its-shape-stands-with-a-new-name k a = (
+    λ e. (said-shape s k a e, λ j b h f g. later-differs j k b a h f e g),
+    λ h. an-attribute-answered s (readBy s k) (place s k) a (shape-back s (place s k) a (h .0)) (use-new (bytes s (a .name)) k (h .1)),
+  )
 
   -- ---- looking one up
 

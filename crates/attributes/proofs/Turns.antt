@@ -32,14 +32,14 @@ nearer s at i q a l e is = omega (arith, shape-rises s i a (an-attribute's-shape
 -- ---- names before a place
 
 -- a loop over the attributes before `at` stands at i, and has not met the name
-pub record Passed (s own : List ℕ) (at i : ℕ) : Type 0 where
+pub record NotMet (s own : List ℕ) (at i : ℕ) : Type 0 where
   pub calls : ℕ
   pub here : place s calls ≡ i
   pub within : i ≤ at
   pub new : useIn s (readBy s calls) own ≡ Use.New
 
 pub record Passing (s : List ℕ) (name at : ℕ) (own : List ℕ) (i : ℕ) : Type 0 where
-  pub passed : (calls : ℕ) → Comes s name at calls → Passed s own at i
+  pub passed : (calls : ℕ) → Comes s name at calls → NotMet s own at i
 
 module _ (s : List ℕ) (name at : ℕ) (own : List ℕ) where
   pub pass-start : Passing s name at own name
@@ -84,8 +84,8 @@ module _ (s : List ℕ) (name at : ℕ) (own : List ℕ) where
       pass-refused x is = pass-none (λ a f. let z : _≡_ {A = ℕ} 0 1 = cc in omega arith)
 
       module _ (a : Attribute) (is : q ≡ Item.Attribute a) (w o : List ℕ) (x : Bool) (ew : w ≡ part s (a .name .from) (a .name .to)) (eo : o ≡ own) (ex : x ≡ same w o) where
-        same-is : same (bytes s (a .name)) own ≡ x
-        same-is = rw (← ew, ← eo) (sym ex)
+        told-same : same (bytes s (a .name)) own ≡ x
+        told-same = rw (← ew, ← eo) (sym ex)
 
         -- one more is read
         use-next : (k : ℕ) (c : Comes s name at k) → useIn s (readBy s (suc (v .passed k c .calls))) own ≡ pick x (Use.At (a .name .from)) Use.New
@@ -96,7 +96,7 @@ module _ (s : List ℕ) (name at : ℕ) (own : List ℕ) where
             ap (λ (b : List Attribute). useIn s b own) (read-on s (p .calls) (m .attribute) (m .is))
             ∙ use-on s own (m .attribute) (readBy s (p .calls))
             ∙ ap (λ (b : Attribute). orElse (useIn s (readBy s (p .calls)) own) (pick (same (bytes s (b .name)) own) (Use.At (b .name .from)) Use.New)) z
-            ∙ rw (p .new, same-is) refl
+            ∙ rw (p .new, told-same) refl
 
         pub pass-found : x ≡ true → UseTold s name at own (Use.At (a .name .from))
         pass-found t =

@@ -54,10 +54,11 @@ valueEnd s quote from = from + until (endsValue quote) (drop from s)
 
 -- ---- the parts of an attribute, and what breaks their rules
 
--- "white space, attribute name" (production 40): none when only white space is left; 19 with no white space; 20 for an empty name
+-- an attribute name, from its first byte on: 20 for an empty one
 unfoldable pub nameFrom : List ℕ → ℕ → Named
 nameFrom s from = pick (eqb (nameEnd s from) from) (Named.Refused (refusal Fault.EmptyName from)) (Named.Name (extent from (nameEnd s from)))
 
+-- "white space, attribute name" (production 40): none when only white space is left, 19 with no white space
 unfoldable pub nameAt : List ℕ → ℕ → Named
 nameAt s at =
     pick (leb (length s) (past s at))

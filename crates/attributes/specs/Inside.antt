@@ -19,7 +19,7 @@ pub record Marks (marks : ℕ) : Type 0 where
 
 unfoldable pub mixed : ℕ → List ℕ → ℕ
 mixed mark [] = mark
-mixed mark (b ∷ bs) = mixed ((mark + b) * 0x9E3779B1 % 0x100000000) bs
+mixed mark (b ∷ bs) = mixed ((mark + b) * 0x93D765DD % 0x100000000) bs
 
 unfoldable pub markOf : ℕ → List ℕ → ℕ
 markOf marks name = mixed 0 name * marks / 0x100000000

@@ -73,4 +73,16 @@ table =
     ∷ (row (114 ∷ 32 ∷ 97 ∷ 61 ∷ 39 ∷ 49 ∷ 39 ∷ 32 ∷ 97 ∷ []) 1 7 (refused (Fault.NameUsed 2) 8))
     -- `r a='' b='' a=''`
     ∷ (row (114 ∷ 32 ∷ 97 ∷ 61 ∷ 39 ∷ 39 ∷ 32 ∷ 98 ∷ 61 ∷ 39 ∷ 39 ∷ 32 ∷ 97 ∷ 61 ∷ 39 ∷ 39 ∷ []) 1 11 (refused (Fault.NameUsed 2) 12))
+    -- `r a='1'b`
+    ∷ (row (114 ∷ 32 ∷ 97 ∷ 61 ∷ 39 ∷ 49 ∷ 39 ∷ 98 ∷ []) 1 1 (Item.Attribute (record { name = extent 2 3; value = extent 5 6; next = 7 })))
+    -- `r </&=''`
+    ∷ (row (114 ∷ 32 ∷ 60 ∷ 47 ∷ 38 ∷ 61 ∷ 39 ∷ 39 ∷ []) 1 1 (Item.Attribute (record { name = extent 2 5; value = extent 7 7; next = 8 })))
+    -- `r a='1'`
+    ∷ (row (114 ∷ 32 ∷ 97 ∷ 61 ∷ 39 ∷ 49 ∷ 39 ∷ []) 1 5 (refused Fault.BadState 0))
+    -- `r`
+    ∷ (row (114 ∷ []) 1 2 (refused Fault.BadState 0))
+    -- `r`
+    ∷ (row (114 ∷ []) 1 0 (refused Fault.BadState 0))
+    -- `r a='' a=''`
+    ∷ (row (114 ∷ 32 ∷ 97 ∷ 61 ∷ 39 ∷ 39 ∷ 32 ∷ 97 ∷ 61 ∷ 39 ∷ 39 ∷ []) 1 11 (refused Fault.BadState 0))
     ∷ []

@@ -78,7 +78,7 @@ unfoldable pub firstFrom : (ℕ → Bool) → ℕ → ℕ → ℕ
 firstFrom test i zero = i
 firstFrom test i (suc left) = pick (test i) i (firstFrom test (i + 1) left)
 
--- it is never more than the content has bytes
+-- the first from 0 on; as many calls as the content has bytes are enough
 abbrev pub firstCall : List ℕ → (ℕ → Bool) → ℕ
 firstCall s test = firstFrom test 0 (length s)
 

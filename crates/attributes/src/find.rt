@@ -17,7 +17,7 @@ ghost use lib.ListN.{length};
 ghost use Rattle.attributes.specs.Tag.{findOf};
 ghost use Rattle.attributes.specs.Inside.{Marks};
 
-// The first attribute with the name `wanted`; none, or the first refusal, where that is met before it.
+// The first attribute with the name `wanted`; the first refusal where one is met before it; else none.
 pub fn find(content: &[u8], name: usize, wanted: &[u8]) -> Item
     ensures { λ r. ⌜ r ≡ findOf (now (content .entry)) name (now (wanted .entry)) ⌝ }
 {

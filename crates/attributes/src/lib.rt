@@ -24,7 +24,8 @@ ghost use lib.ListN.{length};
 ghost use Rattle.attributes.specs.Tag.{attributeAt};
 ghost use Rattle.attributes.specs.Inside.{Marks};
 
-// The attribute at `at` in a content whose name has `name` bytes. `at` is the name's end, or where the attribute before it says to go on.
+// The attribute at `at` in a content whose name has `name` bytes. `at` is the name's end, or where the attribute before it says to go on. Any
+// other `name` or `at` is 17.
 pub fn attribute(content: &[u8], name: usize, at: usize) -> Item
     ensures { λ r. ⌜ r ≡ attributeAt (now (content .entry)) name at ⌝ }
 {

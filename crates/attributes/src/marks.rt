@@ -17,8 +17,8 @@ pub const SOME_BYTES: usize = 4096;
 
 pub const MANY: usize = 65536;
 
-// An odd number below 2^32 by which a byte changes all higher bits of a mark.
-const FACTOR: usize = 0x9E37_79B1;
+// An odd number below 2^32. A mark is made of the upper bits, into which each product carries the bytes.
+const FACTOR: usize = 0x93D7_65DD;
 
 // The mark of a name, of so many.
 pub fn mark_of(content: &[u8], own: Extent, marks: usize) -> usize
