@@ -204,7 +204,7 @@ size_t sporebasket_content(const uint8_t *document, size_t length, size_t from, 
  * An attribute is white space, a name, `=`, and a value in `'` or `"`; white space may stand on both sides of the `=`. White space is space, tab, line feed and carriage return. A name is a
  * run, not empty, of bytes other than white space, `=`, `'` and `"`. A value ends at the quote that it began with. The first fault from the left is refused, and only by the call that
  * comes to it; a call before it tells its attribute:
- * - 19: no white space at `at`, just behind a value.
+ * - 19: a byte that is no white space stands at `at`, just behind a value.
  * - 20: a name is empty: `=` or a quote stands where it should begin.
  * - 24: the name is one that was read before in this tag, byte for byte. PLACE is where it begins the second time. The element's own name does not count.
  * - 21: no `=` behind the name and white space: PLACE is the byte there, or `to`.
@@ -216,14 +216,15 @@ size_t sporebasket_content(const uint8_t *document, size_t length, size_t from, 
  * - `name` is not the count of the content's bytes before its first white space.
  * - `at` is not reached. Reached are from + name, and the NEXT of each attribute that reading from there tells, one after the other; nothing behind a refusal, and no place besides.
  * So it never comes where the numbers are those of a Start or an Empty, handed on as said. A refusal ends the tag: there is no place to go on from. Slots past those named above are left alone.
- * A call walks the tag from its name, since 17 and 24 need what came before; nothing is kept between calls. */
+ * A call walks the tag from its name, since 17 and 24 need what came before; nothing is kept between calls. It takes time by the content's length for tags of up to a thousand attributes or so; in a longer
+ * one, or one whose names were chosen for it, a call may walk the tag once more for each name. It takes some 75 KiB of the machine's stack. */
 size_t sporebasket_attribute(const uint8_t *document, size_t length, size_t from, size_t to, size_t name, size_t at, size_t *answer,
-                             size_t slots);
+                             size_t answer_slots);
 
 /* Looks up an attribute by its name: reads the tag from its name on, as sporebasket_attribute does call by call, and tells the first attribute whose name has the bytes of
  * `wanted`. Where there is none FOUND is 0, and a refusal that is met before it is told as there. 17, at 0: as there, but that no `at` is handed in. */
 size_t sporebasket_find_attribute(const uint8_t *document, size_t length, size_t from, size_t to, size_t name, const uint8_t *wanted,
-                                  size_t wanted_length, size_t *answer, size_t slots);
+                                  size_t wanted_length, size_t *answer, size_t answer_slots);
 
 /* Reads the times of a timetable's column: goes through the whole document with the default settings, and fills the column with the times of its texts within
  * `t`, in the order of the document. A text is within `t` where the latest open name is `t`. White space at both its ends does not count; where nothing else is

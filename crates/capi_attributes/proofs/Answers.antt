@@ -20,7 +20,8 @@ use Rattle.attributes.specs.Answers.{badState, valuesOf}
 use Rattle.attributes.specs.Tag.{attributeAt, findOf}
 use Rattle.attributes.specs.Words.{PlacesIn}
 use Rattle.attributes.proofs.Bounds.{an-answer's-places, a-search's-places}
-use Rattle.capi_attributes.specs.Attributes.{badValues, movedExtent, movedFirst, moved, Movable, attributeIn, foundIn, itemNumbers, attributeSlots, Told}
+use Rattle.capi_attributes.specs.Inside.{Movable}
+use Rattle.capi_attributes.specs.Attributes.{badValues, movedExtent, movedFirst, moved, attributeIn, foundIn, itemNumbers, attributeSlots, Told}
 
 -- ---- places in the document
 

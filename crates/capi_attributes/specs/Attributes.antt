@@ -1,6 +1,6 @@
 -- THE PROMISE of attributes that a host links: the number that is answered, and every slot of what was lent. The content is a part of the host's document, and
 -- places are told in the document.
-use Prim.Native.Nat.{ℕ, _+_, _-_, _<_, _^_}
+use Prim.Native.Nat.{ℕ, _+_, _-_}
 use mathlib.Core.Path.{_≡_}
 use mathlib.Core.Bool.{Bool}
 use mathlib.Core.List.{List, [], _∷_, _++_}
@@ -12,7 +12,6 @@ use Rattle.attributes.specs.declared.item.Extent.{Extent}
 use Rattle.attributes.specs.declared.item.Values.{Values}
 use Rattle.attributes.specs.Answers.{extent, badState, valuesOf}
 use Rattle.attributes.specs.Tag.{attributeAt, findOf}
-use Rattle.attributes.specs.Words.{PlacesIn}
 
 -- 17, for what is lent
 abbrev pub badValues : Values
@@ -55,14 +54,6 @@ moved by v =
       quote = v .quote;
       first = movedFirst by (v .number) (v .first);
     })))
-
--- the numbers do not run over
-pub record Movable (by : ℕ) (v : Values) : Type 0 where
-  pub name : (by + v .name .from < 2 ^ 64) × (by + v .name .to < 2 ^ 64)
-  pub value : (by + v .value .from < 2 ^ 64) × (by + v .value .to < 2 ^ 64)
-  pub next : by + v .next < 2 ^ 64
-  pub place : by + v .place < 2 ^ 64
-  pub first : by + v .first < 2 ^ 64
 
 -- ---- what is answered
 

@@ -11,7 +11,8 @@ ghost use mathlib.Core.Path.{_≡_};
 ghost use mathlib.Core.List.{_++_};
 ghost use Prim.Native.Nat.{_+_, _<_, _≤_, _^_};
 ghost use lib.ListN.{length, drop};
-ghost use Rattle.capi_attributes.specs.Attributes.{badValues, attributeSlots, itemNumbers, moved as movedOf, movedExtent, movedFirst, Movable, attributeIn, foundIn, Told};
+ghost use Rattle.capi_attributes.specs.Inside.{Movable};
+ghost use Rattle.capi_attributes.specs.Attributes.{badValues, attributeSlots, itemNumbers, moved as movedOf, movedExtent, movedFirst, attributeIn, foundIn, Told};
 
 // How many slots the answer takes.
 const ATTRIBUTE_SLOTS: usize = 9;

@@ -44,7 +44,7 @@ use Rattle.reader.specs.Step.{emittedAs, emitted, checked, taken, stepText, beg
 use Rattle.reader.specs.Sound.{sound}
 use Rattle.reader.proofs.Outside.{step-turn, utf8-cases}
 use Rattle.reader.proofs.Rooms.{any-state}
-use Rattle.attributes.specs.Answers.{valuesOf as attributeValues}
+use Rattle.attributes.specs.Answers.{valuesOf as itemValues}
 use Rattle.attributes.specs.Tag.{attributeAt}
 use Rattle.attributes.proofs.Theorems.{the-first-call-is-never-17}
 use Rattle.demands.specs.Run.{said, run}
@@ -181,12 +181,17 @@ module _ (doc stack : List ℕ) (r : Reader) where
 
 -- ---- and what `attributes` then says
 
--- THEOREM: for a Start or an Empty of a run, whatever the settings, the first call for an attribute is never 17
-pub the-first-attribute-of-a-tag-is-never-17 : (doc stack : List ℕ) (c : Config) (n : ℕ) → isTag (said doc (run doc stack c n)) ≡ true
-    → attributeValues (attributeAt (bytes doc (valuesOf (said doc (run doc stack c n)) .content)) (valuesOf (said doc (run doc stack c n)) .name) (valuesOf (said doc (run doc stack c n)) .name)) .number ≡ 17 → ⊥
-the-first-attribute-of-a-tag-is-never-17 doc stack c n e f =
-    let w = run doc stack c n in
-    let a = said doc w in
-    let s = bytes doc (valuesOf a .content) in
-    let t = a-tag's-name-length-is-its-content's doc (w .stack) (w .reader) e in
-    the-first-call-is-never-17 s (ap (λ (m : ℕ). attributeValues (attributeAt s m m) .number) (sym (t .named)) ∙ f)
+module _ (doc stack : List ℕ) (c : Config) (n : ℕ) where
+  -- what call n + 1 of a run answers, and the bytes of its content
+  abbrev tag-said : Answer
+  tag-said = said doc (run doc stack c n)
+
+  abbrev content-bytes : List ℕ
+  content-bytes = bytes doc (valuesOf tag-said .content)
+
+  -- THEOREM: for a Start or an Empty of a run, whatever the settings, the first call for an attribute is never 17
+  pub the-first-attribute-of-a-tag-is-never-17 : isTag tag-said ≡ true
+      → itemValues (attributeAt content-bytes (valuesOf tag-said .name) (valuesOf tag-said .name)) .number ≡ 17 → ⊥
+  the-first-attribute-of-a-tag-is-never-17 e f =
+      let t = a-tag's-name-length-is-its-content's doc (run doc stack c n .stack) (run doc stack c n .reader) e in
+      the-first-call-is-never-17 content-bytes (ap (λ (m : ℕ). itemValues (attributeAt content-bytes m m) .number) (sym (t .named)) ∙ f)

@@ -11,10 +11,14 @@ use Rattle.state.specs.declared.answer.Kind.{Kind}
 use Rattle.state.specs.declared.answer.Answer.{Answer}
 use Rattle.state.specs.Values.{kindNumber, valuesOf}
 use Rattle.reader.specs.Names.{bytes}
+use Rattle.demands.specs.Answers.{isStart}
 
--- "the content of a Start or Empty"
+abbrev pub isEmpty : Answer → Bool
+isEmpty a = eqb (valuesOf a .kind) (kindNumber Kind.Empty)
+
+-- a Start or an Empty
 abbrev pub isTag : Answer → Bool
-isTag a = pick (eqb (valuesOf a .kind) (kindNumber Kind.Start)) true (eqb (valuesOf a .kind) (kindNumber Kind.Empty))
+isTag a = pick (isStart a) true (isEmpty a)
 
 -- its content is a part of the document, and its name length the one that document 01 gives this content
 pub record ATag (doc : List ℕ) (a : Answer) : Type 0 where
