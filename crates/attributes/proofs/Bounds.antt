@@ -1,7 +1,7 @@
 -- Every place that an answer tells lies in the content, and no answer of a reading from the name is 17. Assumes nothing.
-use Prim.Native.Nat.{ℕ, zero, suc, _+_, _≤_, _<_}
+use Prim.Native.Nat.{ℕ, zero, suc, _+_, _≤_}
 use mathlib.Core.Path.{_≡_, refl, sym, ap, _∙_}
-use mathlib.Core.List.{List, [], _∷_}
+use mathlib.Core.List.{List}
 use mathlib.Core.Bool.{Bool, true, false}
 use native.Mathlib.Omega.{arith}
 use lib.ListN.{length}
@@ -24,9 +24,9 @@ use Rattle.attributes.specs.declared.value.Valued.{Valued}
 use Rattle.attributes.specs.Answers.{faultNumber, faultFirst, badState, valuesOf}
 use Rattle.attributes.specs.Grammar.{isQuote, equalsSign, byte, past, nameEnd, valueEnd, nameFrom, nameAt, equalsAt, quotedFrom, valueAt, withValue, withEquals, named}
 use Rattle.attributes.specs.Tag.{bytes, orElse, useIn, unlessUsed, withUse, itemAt, onAt, readBy, place, said, isAt, callsTo, attributeAt, firstCall, endsAt, findOf}
-use Rattle.attributes.specs.Words.{SpaceName, Sign, Quoted, Shaped, PlacesIn}
-use Rattle.attributes.proofs.Shapes.{run-within, NamedAs, EqualsAs, name-words, equals-words, an-attribute's-shape, shape-within}
-use Rattle.attributes.proofs.Tags.{Went, went, on, stays, place-first, place-on, read-on, said-shape, use-on, use-none, an-attribute-read}
+use Rattle.attributes.specs.Words.{SpaceName, PlacesIn}
+use Rattle.attributes.proofs.Shapes.{run-within, NamedAs, EqualsAs, name-words, equals-words, shape-within}
+use Rattle.attributes.proofs.Tags.{Went, went, on, stays, place-first, place-on, read-on, said-shape, use-on, use-none}
 
 module _ (s : List ℕ) where
   -- ---- the place of a refusal by the grammar

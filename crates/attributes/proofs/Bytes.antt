@@ -1,6 +1,6 @@
 -- The tests of a byte joined, and the runs of specs/Grammar as the loops and `trim_start` give them. Assumes nothing.
 use Prim.Native.Nat.{ℕ, _+_, _≤_, _<_}
-use mathlib.Core.Path.{_≡_, refl, sym, ap, _∙_}
+use mathlib.Core.Path.{_≡_, refl, ap, _∙_}
 use mathlib.Core.List.{List}
 use mathlib.Core.Bool.{Bool, true, false, _||_}
 use lib.ListN.{length, getD, drop}
@@ -8,11 +8,11 @@ use lib.Dec.{eqb}
 use borrow.Author.Needs.{needs}
 use Rattle.ground.specs.Choose.{pick}
 use Rattle.ground.specs.Part.{part}
-use Rattle.ground.specs.Bytes.{quot, apos, lt}
+use Rattle.ground.specs.Bytes.{lt}
 use Rattle.ground.proofs.Lists.{part-from}
-use Rattle.white.specs.White.{isWhite, until, leading}
+use Rattle.white.specs.White.{until, leading}
 use Rattle.white.proofs.Runs.{run-past, run-here, run-turn}
-use Rattle.attributes.specs.Grammar.{isQuote, endsName, endsValue, equalsSign, past, nameEnd, valueEnd}
+use Rattle.attributes.specs.Grammar.{endsName, endsValue, past, nameEnd, valueEnd}
 
 -- ---- tests joined
 

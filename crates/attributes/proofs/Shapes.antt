@@ -6,26 +6,25 @@ use mathlib.Core.Bool.{Bool, true, false, not}
 use mathlib.Core.Logic.{_↔_, ⊎-elim}
 use native.Mathlib.Omega.{arith}
 use native.Mathlib.Decide.{decLt}
-use lib.ListN.{length, getD, drop, length-drop}
+use lib.ListN.{length, drop, length-drop}
 use lib.Seq.{getD-drop}
 use lib.Dec.{leb, eqb}
-use borrow.Author.Tests.{eq-eqb, ne-eqb, eqb-true, eqb-false, le-leb, lt-leb, leb-false}
+use borrow.Author.Tests.{eq-eqb, ne-eqb, eqb-true, eqb-false, lt-leb, leb-false}
 use Rattle.ground.specs.Choose.{pick}
 use Rattle.ground.specs.Bytes.{quot, apos, lt}
-use Rattle.ground.proofs.Choices.{clash, pick-cases, must-fail, not-false}
+use Rattle.ground.proofs.Choices.{clash, pick-cases, not-false}
 use Rattle.ground.proofs.Lists.{byte-past}
-use Rattle.white.specs.White.{isWhite, notWhite, until, leading}
+use Rattle.white.specs.White.{isWhite, notWhite, until}
 use Rattle.white.proofs.Runs.{until-here, until-next, until-byte, until-inside}
 use Rattle.white.proofs.Words.{until-at}
 use Rattle.attributes.specs.declared.equals.Equals.{Equals}
 use Rattle.attributes.specs.declared.item.Extent.{Extent}
 use Rattle.attributes.specs.declared.item.Attribute.{Attribute}
-use Rattle.attributes.specs.declared.item.Refusal.{Refusal}
 use Rattle.attributes.specs.declared.item.Item.{Item}
 use Rattle.attributes.specs.declared.name.Named.{Named}
 use Rattle.attributes.specs.declared.value.Valued.{Valued}
 use Rattle.attributes.specs.Answers.{extent}
-use Rattle.attributes.specs.Grammar.{isQuote, endsName, endsValue, equalsSign, byte, past, nameEnd, valueEnd, nameFrom, nameAt, equalsAt, quotedFrom, valueAt, attributeOf, withValue, withEquals, withName, named, shapeAt}
+use Rattle.attributes.specs.Grammar.{isQuote, endsName, endsValue, equalsSign, byte, past, nameEnd, valueEnd, nameFrom, nameAt, equalsAt, quotedFrom, valueAt, withValue, withEquals, withName, named, shapeAt}
 use Rattle.attributes.specs.Words.{Each, Space, SpaceName, Sign, Quoted, Shaped}
 
 -- ---- runs

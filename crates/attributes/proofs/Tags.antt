@@ -2,10 +2,8 @@
 use Prim.Native.Nat.{ℕ, zero, suc, _+_, _≤_, _<_}
 use mathlib.Core.Path.{_≡_, refl, sym, ap, _∙_}
 use mathlib.Core.List.{List, [], _∷_}
-use mathlib.Core.Bool.{Bool, true, false}
 use native.Mathlib.Omega.{arith}
 use native.Mathlib.Decide.{decLt}
-use lib.ListN.{length}
 use Rattle.ground.specs.Choose.{pick}
 use Rattle.ground.specs.Equal.{same}
 use Rattle.white.specs.White.{nameLen}
@@ -19,7 +17,7 @@ use Rattle.attributes.specs.declared.value.Valued.{Valued}
 use Rattle.attributes.specs.Grammar.{nameAt, equalsAt, valueAt, withValue, withEquals, withName, named, shapeAt}
 use Rattle.attributes.specs.Tag.{bytes, orElse, useIn, unlessUsed, withUse, itemAt, onAt, added, readBy, place, said}
 use Rattle.attributes.specs.Words.{Shaped}
-use Rattle.attributes.proofs.Shapes.{an-attribute's-shape, shape-rises, shape-within}
+use Rattle.attributes.proofs.Shapes.{an-attribute's-shape, shape-rises}
 
 -- ---- an answer that is an attribute
 

@@ -1,16 +1,14 @@
 -- The loops over the attributes of a tag, a law for each turn and each end. Assumes nothing.
-use Prim.Native.Nat.{ℕ, zero, suc, _+_, _-_, _≤_, _<_}
+use Prim.Native.Nat.{ℕ, suc, _-_, _≤_, _<_}
 use mathlib.Core.Path.{_≡_, refl, sym, ap, _∙_}
-use mathlib.Core.List.{List, [], _∷_}
+use mathlib.Core.List.{List}
 use mathlib.Core.Bool.{Bool, true, false}
 use native.Mathlib.Omega.{arith}
-use native.Mathlib.Decide.{decLt}
-use lib.ListN.{length, getD, set}
+use lib.ListN.{length, getD}
 use borrow.Author.Needs.{needs}
 use Rattle.ground.specs.Choose.{pick}
 use Rattle.ground.specs.Equal.{same}
 use Rattle.ground.specs.Part.{part}
-use Rattle.white.specs.White.{nameLen}
 use Rattle.attributes.specs.declared.item.Attribute.{Attribute}
 use Rattle.attributes.specs.declared.item.Extent.{Extent}
 use Rattle.attributes.specs.declared.item.Fault.{Fault}
@@ -18,9 +16,9 @@ use Rattle.attributes.specs.declared.item.Refusal.{Refusal}
 use Rattle.attributes.specs.declared.item.Item.{Item}
 use Rattle.attributes.specs.declared.name.Named.{Named}
 use Rattle.attributes.specs.declared.used.Use.{Use}
-use Rattle.attributes.specs.Answers.{refused, badState}
+use Rattle.attributes.specs.Answers.{refused}
 use Rattle.attributes.specs.Grammar.{nameAt, named, withName, shapeAt}
-use Rattle.attributes.specs.Tag.{bytes, orElse, useIn, unlessUsed, withUse, itemAt, onAt, readBy, place, said}
+use Rattle.attributes.specs.Tag.{bytes, orElse, useIn, unlessUsed, withUse, itemAt, readBy, place, said}
 use Rattle.attributes.specs.Inside.{markOf, Marked, Comes, UseTold, ItemTold}
 use Rattle.attributes.proofs.Shapes.{an-attribute's-shape, shape-rises}
 use Rattle.attributes.proofs.Tags.{Moves, place-first, place-on, read-on, read-said, read-at, place-order, moves, use-on, use-none, use-stays}

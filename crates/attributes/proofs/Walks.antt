@@ -1,13 +1,12 @@
 -- The loops that read a tag from its name, and what a call answers. Assumes nothing.
 use Prim.Native.Nat.{ℕ, zero, suc, _+_, _-_, _*_, _≤_, _<_}
 use mathlib.Core.Path.{_≡_, refl, sym, ap, subst, _∙_}
-use mathlib.Core.List.{List, [], _∷_}
+use mathlib.Core.List.{List}
 use mathlib.Core.Bool.{Bool, true, false}
 use native.Mathlib.Omega.{arith}
 use native.Mathlib.Decide.{decLt}
 use lib.ListN.{length, getD, set, length-set}
 use lib.Seq.{getD-set-same, getD-set-other}
-use lib.Dec.{eqb}
 use borrow.Author.Needs.{needs}
 use borrow.Author.Tests.{eq-eqb, ne-eqb, eqb-true}
 use Rattle.ground.specs.Choose.{pick}
@@ -23,7 +22,7 @@ use Rattle.attributes.specs.declared.item.Refusal.{Refusal}
 use Rattle.attributes.specs.declared.item.Item.{Item}
 use Rattle.attributes.specs.declared.used.Use.{Use}
 use Rattle.attributes.specs.Answers.{badState}
-use Rattle.attributes.specs.Tag.{bytes, orElse, useIn, itemAt, onAt, readBy, place, said, firstFrom, isAt, callsTo, attributeAt, isEnd, endsAt, findOf}
+use Rattle.attributes.specs.Tag.{bytes, useIn, itemAt, onAt, readBy, place, said, firstFrom, isAt, callsTo, attributeAt, isEnd, endsAt, findOf}
 use Rattle.attributes.specs.Inside.{Marks, markOf, Marked, Comes, ItemTold}
 use Rattle.attributes.proofs.Shapes.{an-attribute's-shape, shape-rises, shape-within}
 use Rattle.attributes.proofs.Tags.{place-first, place-on, place-rises, read-on, said-shape, read-at, read-stays, place-order, use-on, use-none}

@@ -1,6 +1,6 @@
 -- The attributes of a tag, one after the other (document 02): names already used, the places that reading from the name reaches, and what a call answers.
 use Prim.Native.Nat.{ℕ, zero, suc, _+_}
-use mathlib.Core.Bool.{Bool, true, false}
+use mathlib.Core.Bool.{Bool, true}
 use mathlib.Core.List.{List, [], _∷_}
 use lib.ListN.{length}
 use lib.Dec.{eqb}
@@ -15,7 +15,7 @@ use Rattle.attributes.specs.declared.item.Item.{Item}
 use Rattle.attributes.specs.declared.name.Named.{Named}
 use Rattle.attributes.specs.declared.used.Use.{Use}
 use Rattle.attributes.specs.Answers.{refused, badState}
-use Rattle.attributes.specs.Grammar.{nameAt, named, shapeAt}
+use Rattle.attributes.specs.Grammar.{nameAt, named}
 
 -- the bytes of an extent
 abbrev pub bytes : List ℕ → Extent → List ℕ

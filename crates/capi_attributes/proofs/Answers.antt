@@ -1,14 +1,12 @@
 -- What the functions of a host answer and leave, from the promises of what they call. Assumes nothing.
 use Prim.Native.Nat.{ℕ, _+_, _-_, _^_, _≤_, _<_}
-use mathlib.Core.Path.{_≡_, refl, sym, ap, _∙_}
+use mathlib.Core.Path.{_≡_, refl, ap, _∙_}
 use mathlib.Core.List.{List, [], _∷_, _++_}
 use native.Mathlib.Omega.{arith}
 use lib.ListN.{length, drop}
 use lib.Seq.{sets, sets-eq}
-use lib.Dec.{eqb, ltb}
 use borrow.Author.Needs.{needs}
 use borrow.Author.Tests.{eq-eqb, ne-eqb}
-use Rattle.ground.specs.Choose.{pick}
 use Rattle.ground.specs.Part.{part}
 use Rattle.ground.proofs.Choices.{pick-lt, pick-nlt, choices}
 use Rattle.ground.proofs.Lists.{part-length}

@@ -1,5 +1,5 @@
 -- The contents of Start and Empty, and their name lengths: of a call on any state, of a run, and with what `attributes` says of a content. Assumes nothing.
-use Prim.Native.Nat.{ℕ, _≤_}
+use Prim.Native.Nat.{ℕ}
 use mathlib.Core.Path.{_≡_, refl, sym, ap, _∙_}
 use mathlib.Core.List.{List}
 use mathlib.Core.Bool.{Bool, true, false}
@@ -25,7 +25,7 @@ use Rattle.state.specs.declared.answer.Answer.{Answer}
 use Rattle.state.specs.declared.run.Phase.{Phase}
 use Rattle.state.specs.declared.run.Reader.{Reader}
 use Rattle.state.specs.declared.run.Step.{Step}
-use Rattle.state.specs.Limits.{longest, capacity}
+use Rattle.state.specs.Limits.{capacity}
 use Rattle.state.specs.Place.{at, depthOf, fewer, size, inner}
 use Rattle.state.specs.Make.{withDepth, event, told, ended, refused, stopped, refusesEnd, ending, badState}
 use Rattle.state.specs.Values.{valuesOf}
@@ -40,7 +40,7 @@ use Rattle.reader.specs.declared.piece.Shape.{Shape}
 use Rattle.reader.specs.declared.piece.Piece.{Piece}
 use Rattle.reader.specs.declared.piece.Cut.{Cut}
 use Rattle.reader.specs.Names.{bytes, latest}
-use Rattle.reader.specs.Step.{emittedAs, emitted, checked, taken, stepText, begin, stepIn, stepPhase, step}
+use Rattle.reader.specs.Step.{emittedAs, emitted, checked, taken, stepText, stepIn, stepPhase, step}
 use Rattle.reader.specs.Sound.{sound}
 use Rattle.reader.proofs.Outside.{step-turn, utf8-cases}
 use Rattle.reader.proofs.Rooms.{any-state}

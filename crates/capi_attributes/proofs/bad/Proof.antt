@@ -1,6 +1,5 @@
 -- `bad` meets its contract. Assumes nothing.
 use Rattle.capi_attributes.proofs.Answers.{moves}
-use borrow.Author.Needs.{needs}
 use Rattle.capi_attributes.proofs.bad.Statement.{statement}
 use Rattle.capi_attributes.proofs.bad.Tie as tie
 

@@ -1,6 +1,5 @@
 -- `find_in` meets its contract. Assumes nothing.
 use Rattle.capi_attributes.proofs.Answers.{answers}
-use borrow.Author.Needs.{needs}
 use Rattle.capi_attributes.proofs.find_in.Statement.{statement}
 use Rattle.capi_attributes.proofs.find_in.Tie as tie
 

@@ -1,6 +1,5 @@
 -- `moved` meets its contract. Assumes nothing.
 use Rattle.capi_attributes.proofs.Answers.{moves}
-use borrow.Author.Needs.{needs}
 use Rattle.capi_attributes.proofs.moved.Statement.{statement}
 use Rattle.capi_attributes.proofs.moved.Tie as tie
 

@@ -1,6 +1,5 @@
 -- `moved_first` meets its contract. Assumes nothing.
 use Rattle.capi_attributes.proofs.Answers.{moves}
-use borrow.Author.Needs.{needs}
 use Rattle.capi_attributes.proofs.moved_first.Statement.{statement}
 use Rattle.capi_attributes.proofs.moved_first.Tie as tie
 

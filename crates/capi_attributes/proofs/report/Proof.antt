@@ -2,7 +2,6 @@
 use Rattle.ground.proofs.Slots.{slot-in}
 use Rattle.capi_attributes.specs.Attributes.{attributeSlots}
 use Rattle.capi_attributes.proofs.Answers.{tolds}
-use borrow.Author.Needs.{needs}
 use Rattle.capi_attributes.proofs.report.Statement.{statement}
 use Rattle.capi_attributes.proofs.report.Tie as tie
 

@@ -1,6 +1,5 @@
 -- `sporebasket_attribute` meets its contract. Assumes nothing.
 use Rattle.capi_attributes.proofs.Answers.{tolds}
-use borrow.Author.Needs.{needs}
 use Rattle.capi_attributes.proofs.sporebasket_attribute.Statement.{statement}
 use Rattle.capi_attributes.proofs.sporebasket_attribute.Tie as tie
 

@@ -1,6 +1,5 @@
 -- `item_at` meets its contract. Assumes nothing.
 use Rattle.attributes.proofs.Turns.{items}
-use borrow.Author.Needs.{needs}
 use Rattle.attributes.proofs.used.item_at.Statement.{statement}
 use Rattle.attributes.proofs.used.item_at.Tie as tie
 
