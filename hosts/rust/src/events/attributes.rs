@@ -187,9 +187,10 @@ impl<'a> Iterator for Attributes<'a> {
         let (buf, mut answer) = (self.buf.as_bytes(), [0; ATTRIBUTE_SLOTS]);
         let number = lent::attribute(buf, from, buf.len(), length, at, &mut answer);
         let told = self.told(number, &answer);
+        // nothing is left behind an attribute at the end, and a call there would say so
         self.state = match told {
-            Ok(Some(_)) => State::Next(answer[slot::NEXT]),
-            Ok(None) | Err(_) => State::Done,
+            Ok(Some(_)) if answer[slot::NEXT] < buf.len() => State::Next(answer[slot::NEXT]),
+            Ok(_) | Err(_) => State::Done,
         };
         told.transpose()
     }
