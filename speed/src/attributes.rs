@@ -15,8 +15,9 @@ const COUNTS: [usize; 11] = [1, 3, 6, 12, 25, 50, 100, 200, 400, 800, 1600];
 const SAMPLE: f64 = 200_000.0;
 const SAMPLES: usize = 15;
 
-/// How many times as long a byte one call may take at the last count as at 100.
-const MOST: f64 = 8.0;
+/// How many times as long a byte one call may take at the last count as at this one.
+const MOST: f64 = 3.0;
+const FEW: usize = 25;
 
 /// A tag's content, with names that are all different.
 struct Tag {
@@ -54,7 +55,7 @@ fn samples(mut run: impl FnMut() -> usize) -> Vec<f64> {
 
 pub fn run() -> Result<(), String> {
     println!("| attributes | bytes | one call, ns a byte | looked up | all |\n|---|---|---|---|---|");
-    let (mut at_hundred, mut at_last) = (0.0, 0.0);
+    let (mut at_few, mut at_last) = (0.0, 0.0);
     for count in COUNTS {
         let Tag { content, name, last, wanted } = tag(count);
         let (bytes, mut answer) = (content.as_bytes(), [0; lent::ATTRIBUTE_SLOTS]);
@@ -76,14 +77,15 @@ pub fn run() -> Result<(), String> {
         let theirs = samples(|| Theirs::new(black_box(&content), name).count());
         let byte = least(&call) / bytes.len() as f64;
         println!("| {count} | {} | {byte:.1} | {found:.2} | {:.2} |", bytes.len(), ratio(&ours, &theirs));
-        if count == 100 {
-            at_hundred = byte;
+        if count == FEW {
+            at_few = byte;
         }
         at_last = byte;
     }
     println!("\nlooked up, all: the time of `find_attribute` for the last name, and of the Rust package's `Attributes`, as ratios to quick-xml's `Attributes`.");
-    if at_last > MOST * at_hundred {
-        return Err(format!("one call takes {:.1} times as long a byte at {} attributes as at 100", at_last / at_hundred, COUNTS[COUNTS.len() - 1]));
+    if at_last > MOST * at_few {
+        let last = COUNTS[COUNTS.len() - 1];
+        return Err(format!("one call takes {:.1} times as long a byte at {last} attributes as at {FEW}", at_last / at_few));
     }
     Ok(())
 }

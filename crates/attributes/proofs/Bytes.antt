@@ -20,11 +20,9 @@ pub either : (a b : Bool) → (a || b) ≡ pick a true b
 either true b = refl
 either false b = refl
 
-pub one-of-three : (a b : Bool) (w q : Bool) → a ≡ w → b ≡ q → (x : Bool) → ((a || x) || b) ≡ pick w true (pick x true q)
-one-of-three true b w q e f x = rw (← e) (absorb x b)
-  where
-    absorb : (x b : Bool) → ((true || x) || b) ≡ true
-    absorb x b = refl
+-- where w and q are what calls say of the byte
+pub one-of-three : (a b w q : Bool) → a ≡ w → b ≡ q → (x : Bool) → ((a || x) || b) ≡ pick w true (pick x true q)
+one-of-three true b w q e f x = rw (← e) refl
 one-of-three false b w q e f true = rw (← e) refl
 one-of-three false b w q e f false = rw (← e) f
 
