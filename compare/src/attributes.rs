@@ -10,11 +10,9 @@ mod shrink;
 mod summary;
 mod theirs;
 
-use crate::check::PANIC;
 use crate::inputs::{self, Amount};
-use crate::run;
+use crate::run::{self, Tells};
 use bench::Bench;
-use std::collections::HashSet;
 use std::path::PathBuf;
 
 pub use listed::TAGS;
@@ -44,6 +42,11 @@ const DUPLICATE: usize = 24;
 /// A part of a content by its ends.
 type Span = (usize, usize);
 
+/// By the account and the rules as they are.
+fn sound() -> Bench {
+    Bench::new(&account::SOUND, &theirs::SOUND)
+}
+
 /// Runs every input, or those of the files: true if nothing differs but what is listed, and everything was seen that should be.
 pub fn compare(amount: Amount, seed: u64, files: Vec<PathBuf>) -> bool {
     let refuted = examples::refuted();
@@ -52,21 +55,17 @@ pub fn compare(amount: Amount, seed: u64, files: Vec<PathBuf>) -> bool {
     }
     let of_files = !files.is_empty();
     let families = if of_files { inputs::tags_of_files(files) } else { inputs::attributes(amount, seed) };
-    let (tallies, found) = run::run(&families, || Bench::new(&account::SOUND, &theirs::SOUND));
+    let (tallies, found) = run::run(&families, sound);
     let named: Vec<_> = families.iter().map(|family| family.name).zip(tallies).collect();
     let all = summary::print(&named);
-    let mut shown = HashSet::new();
-    for (kept, difference) in &found {
-        if *difference == PANIC {
-            println!("a side panicked: {}", shrink::line(kept));
-            continue;
-        }
-        let mut bench = Bench::new(&account::SOUND, &theirs::SOUND);
-        let (kept, difference) = shrink::shrink(&mut bench, kept, *difference);
-        if shown.insert(shrink::line(&kept)) {
-            shrink::show(&mut bench, &kept, difference);
-        }
-    }
+    run::tell(
+        &found,
+        &Tells {
+            line: shrink::line,
+            shrink: |kept, difference| shrink::shrink(&mut sound(), kept, difference),
+            show: |kept, difference| shrink::show(&mut sound(), kept, difference),
+        },
+    );
     let missing = if of_files { Vec::new() } else { all.missing() };
     missing.iter().for_each(|what| println!("never seen: {what}"));
     println!("{}", all.line());

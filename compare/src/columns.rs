@@ -6,14 +6,12 @@ mod faults;
 mod shrink;
 mod summary;
 
-use crate::check::PANIC;
 use crate::inputs::{self, Amount, Family};
 use crate::ours::{
     DEFAULT, DOCTYPE, ENCODING, END, EOF, LONGEST, MISMATCHED, MOST_NAMES, REF, STACK_FULL, START, TEXT, TOO_LONG, UNMATCHED_END,
 };
-use crate::run;
+use crate::run::{self, Tells};
 use bench::Bench;
-use std::collections::HashSet;
 use std::path::PathBuf;
 
 /// The slots of an answer.
@@ -28,25 +26,26 @@ const BAD_STATE: usize = 17;
 const BAD_TIME: usize = 30;
 const COLUMN_FULL: usize = 31;
 
+/// By the account as it is.
+fn sound() -> Bench {
+    Bench::new(&account::SOUND)
+}
+
 /// Runs every input, or those of the files: true if nothing differs and everything was seen that should be.
 pub fn compare(amount: Amount, seed: u64, files: Vec<PathBuf>) -> bool {
     let of_files = !files.is_empty();
     let families = if of_files { inputs::of_files(files) } else { inputs::columns(amount, seed) };
-    let (tallies, found) = run::run(&families, || Bench::new(&account::SOUND));
+    let (tallies, found) = run::run(&families, sound);
     let named: Vec<_> = families.iter().map(|family| family.name).zip(tallies).collect();
     let all = summary::print(&named);
-    let mut shown = HashSet::new();
-    for (kept, difference) in &found {
-        if *difference == PANIC {
-            println!("a side panicked: {}", shrink::line(kept));
-            continue;
-        }
-        let mut bench = Bench::new(&account::SOUND);
-        let (kept, difference) = shrink::shrink(&mut bench, kept, *difference);
-        if shown.insert(shrink::line(&kept)) {
-            shrink::show(&mut bench, &kept, difference);
-        }
-    }
+    run::tell(
+        &found,
+        &Tells {
+            line: shrink::line,
+            shrink: |kept, difference| shrink::shrink(&mut sound(), kept, difference),
+            show: |kept, difference| shrink::show(&mut sound(), kept, difference),
+        },
+    );
     let missing = if of_files { Vec::new() } else { all.missing() };
     missing.iter().for_each(|what| println!("never seen: {what}"));
     println!("{}", all.line());

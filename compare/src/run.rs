@@ -3,6 +3,7 @@
 use crate::check::{Bench, Case, Difference, PANIC};
 use crate::inputs::{Family, Flow, Sink, ON};
 use crate::ours::{Engine, OPEN_NAMES};
+use std::collections::HashSet;
 use std::ops::ControlFlow;
 use std::panic::{catch_unwind, AssertUnwindSafe};
 use std::sync::atomic::{AtomicBool, AtomicU64, AtomicUsize, Ordering::Relaxed};
@@ -198,6 +199,28 @@ fn keep<R: Runs>(all: &mut Vec<Found<R>>, found: &mut Vec<Found<R>>) {
     all.sort_by_key(|(kept, difference)| (difference.fields, R::length(kept)));
     all.dedup_by_key(|(_, difference)| difference.fields);
     all.truncate(KEPT);
+}
+
+/// How a case with a difference is told: as a line, made smaller, and shown.
+pub struct Tells<K> {
+    pub line: fn(&K) -> String,
+    pub shrink: fn(&K, Difference) -> (K, Difference),
+    pub show: fn(&K, Difference),
+}
+
+/// Tells what was found: a case in which a side panicked as it is, any other made smaller; each once.
+pub fn tell<K>(found: &[(K, Difference)], tells: &Tells<K>) {
+    let mut shown = HashSet::new();
+    for (kept, difference) in found {
+        if *difference == PANIC {
+            println!("a side panicked: {}", (tells.line)(kept));
+            continue;
+        }
+        let (kept, difference) = (tells.shrink)(kept, *difference);
+        if shown.insert((tells.line)(&kept)) {
+            (tells.show)(&kept, difference);
+        }
+    }
 }
 
 /// Runs every job by benches made for it: the counts of each family, and some differences with the shortest documents.

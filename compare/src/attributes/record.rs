@@ -19,7 +19,7 @@ use crate::inputs::{Flow, Sink, ON};
 use crate::run::Runs;
 use crate::trace::escaped;
 use quick_xml::events::attributes::AttrError;
-use std::collections::HashMap;
+use std::collections::{HashMap, HashSet};
 use std::fmt::Write;
 use std::hash::{DefaultHasher, Hash, Hasher};
 use std::path::Path;
