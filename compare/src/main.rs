@@ -1,11 +1,13 @@
-//! Compares Sporebasket with quick-xml 0.42.0, call by call, its column reader with an account over quick-xml's events, its reading of attributes with
-//! quick-xml's own, and what one program is told by quick-xml and by the Rust package in its place. See `tools/compare` and `tools/record`.
+//! Compares Sporebasket with quick-xml 0.42.0, call by call, its column reader with an account over quick-xml's events, its reading of attributes and of
+//! references as characters with quick-xml's own, and what one program is told by quick-xml and by the Rust package in its place. See `tools/compare` and
+//! `tools/record`.
 
 #![forbid(unsafe_code)]
 
 mod attributes;
 mod check;
 mod columns;
+mod escape;
 mod faults;
 mod inputs;
 mod listed;
@@ -25,7 +27,7 @@ use std::path::PathBuf;
 use std::process::ExitCode;
 
 const USAGE: &str =
-    "usage: compare [--columns | --attributes | --swap] [--quick | --faults | --first | --record FOLDER] [--seed N] [FILE..]";
+    "usage: compare [--columns | --attributes | --escape | --swap] [--quick | --faults | --first | --record FOLDER] [--seed N] [FILE..]";
 
 /// What is compared.
 #[derive(Clone, Copy, PartialEq, Eq)]
@@ -33,6 +35,7 @@ enum Part {
     All,
     Columns,
     Attributes,
+    Escape,
     Swap,
 }
 
@@ -66,6 +69,7 @@ fn wish() -> Option<Wish> {
             "--seed" => wish.seed = arguments.next()?.to_str()?.parse().ok()?,
             "--columns" => wish.part = Part::Columns,
             "--attributes" => wish.part = Part::Attributes,
+            "--escape" => wish.part = Part::Escape,
             "--swap" => wish.part = Part::Swap,
             "--tags" => wish.tags = true,
             "--faults" => wish.faults = true,
@@ -85,20 +89,25 @@ fn main() -> ExitCode {
     };
     if wish.tags {
         let scanners = scanners::ROWS.iter().map(|row| &row.tag);
-        listed::TAGS.iter().chain(scanners).chain(&attributes::TAGS).for_each(|tag| println!("{tag}"));
+        listed::TAGS.iter().chain(scanners).chain(&attributes::TAGS).chain(&escape::TAGS).for_each(|tag| println!("{tag}"));
         return ExitCode::SUCCESS;
     }
     if wish.faults {
         let readers = wish.part != Part::All || faults::run(wish.seed);
         let columns = !wish.part.has(Part::Columns) || columns::faults(wish.seed);
         let attributes = !wish.part.has(Part::Attributes) || attributes::faults(wish.seed);
-        return ExitCode::from(!(readers && columns && attributes) as u8);
+        let escape = !wish.part.has(Part::Escape) || escape::faults(wish.seed);
+        return ExitCode::from(!(readers && columns && attributes && escape) as u8);
     }
     if wish.first {
         return ExitCode::from(swap::notice(wish.seed) as u8);
     }
     if let Some(folder) = wish.record {
-        let record = if wish.part == Part::Attributes { attributes::record } else { record::record };
+        let record = match wish.part {
+            Part::Attributes => attributes::record,
+            Part::Escape => escape::record,
+            _ => record::record,
+        };
         return match record(&folder, wish.seed) {
             Ok(covered) => ExitCode::from(!covered as u8),
             Err(error) => {
@@ -110,7 +119,7 @@ fn main() -> ExitCode {
     compare(wish)
 }
 
-/// The reader, the column reader, attributes and the program over both, or one of the last three alone.
+/// The reader, the column reader, attributes, references and the program over both, or one of the last four alone.
 fn compare(wish: Wish) -> ExitCode {
     if let Some(file) = wish.files.iter().find(|file| !file.is_file() || std::fs::File::open(file).is_err()) {
         eprintln!("compare: cannot read {}", file.display());
@@ -128,8 +137,9 @@ fn compare(wish: Wish) -> ExitCode {
     let alike = wish.part != Part::All || readers(&wish);
     let columns = !wish.part.has(Part::Columns) || columns::compare(wish.amount, wish.seed, wish.files.clone());
     let attributes = !wish.part.has(Part::Attributes) || attributes::compare(wish.amount, wish.seed, wish.files.clone());
+    let escape = !wish.part.has(Part::Escape) || escape::compare(wish.amount, wish.seed, wish.files.clone());
     let swap = !wish.part.has(Part::Swap) || swap::compare(wish.amount, wish.seed, wish.files);
-    ExitCode::from(!(alike && columns && attributes && swap) as u8)
+    ExitCode::from(!(alike && columns && attributes && escape && swap) as u8)
 }
 
 /// Runs every input, or those of the files, call by call: true if nothing differs but what is listed and everything was seen that should be.

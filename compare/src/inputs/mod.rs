@@ -3,6 +3,7 @@
 mod attributes;
 pub mod blocks;
 mod columns;
+mod escape;
 mod exhaustive;
 mod files;
 mod limits;
@@ -141,6 +142,31 @@ pub fn attributes(amount: Amount, seed: u64) -> Vec<Family> {
 /// Contents of tags alone, which are the same on every machine.
 pub fn contents(seed: u64) -> Vec<Family> {
     attributes::families(Amount::Quick, seed)
+}
+
+/// Those of references: contents with them, and the texts of documents of the others.
+pub fn escape(amount: Amount, seed: u64) -> Vec<Family> {
+    let found = files::found(Amount::Full);
+    let step = amount.of(found.len() / 200 + 1, 1);
+    let found: Vec<PathBuf> = found.into_iter().step_by(step).collect();
+    let mut documents = random::families(Amount::Quick, seed);
+    documents.extend(exhaustive::families(Amount::Quick));
+    documents.extend(utf8::families(Amount::Quick));
+    let share = amount.of(29, 3);
+    let mut families = escape::families(amount, seed);
+    families.extend(documents.into_iter().map(|family| escape::of_documents(thinned(family, share))));
+    families.extend(texts_of_files(found));
+    families
+}
+
+/// Contents with references alone, which are the same on every machine.
+pub fn texts(seed: u64) -> Vec<Family> {
+    escape::families(Amount::Quick, seed)
+}
+
+/// The texts in the files named.
+pub fn texts_of_files(paths: Vec<PathBuf>) -> Vec<Family> {
+    files::families(paths).into_iter().map(escape::of_documents).collect()
 }
 
 /// The tags in the files named.
