@@ -253,7 +253,7 @@ impl Bench {
             (None, Ok(text)) => text.as_bytes() == reading.bytes,
             (None, Err(_)) => false,
             (Some(refused), given) => {
-                let told = Told { content: content.as_bytes(), refused, before: &reading.bytes, given };
+                let told = Told { content, refused, before: &reading.bytes, given };
                 match listed::which(&told) {
                     Ok(row) => {
                         tally.refusal(row, which, &told);

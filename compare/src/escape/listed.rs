@@ -6,7 +6,7 @@ use std::borrow::Cow;
 
 /// Our refusal of a content by its number and place, what we read before it, and what the crate gives for the content.
 pub struct Told<'a> {
-    pub content: &'a [u8],
+    pub content: &'a str,
     pub refused: (usize, usize),
     pub before: &'a [u8],
     pub given: &'a Result<Cow<'a, str>, Fault>,
@@ -20,10 +20,8 @@ struct Row {
     holds: fn(&Told) -> bool,
 }
 
-const ROWS: [Row; 2] = [
-    Row { tag: "reference-character", due: is_taken, holds: taken },
-    Row { tag: "reference-overflow", due: is_overflow, holds: |told| *told.given == Err(Fault::PosOverflow) },
-];
+const ROWS: [Row; 2] =
+    [Row { tag: "reference-character", due: is_taken, holds: taken }, Row { tag: "reference-overflow", due: is_overflow, holds: overflow }];
 
 pub const COUNT: usize = ROWS.len();
 pub const TAGS: [&str; COUNT] = [ROWS[0].tag, ROWS[1].tag];
@@ -38,17 +36,30 @@ pub fn which(told: &Told) -> Result<Option<usize>, ()> {
     }
 }
 
-/// Whether the crate says the same by its error: our number, and the place if it tells one.
+/// Whether the crate says the same by its error: our number, and the place. If it tells no place, it has to take all before ours, and to say the same of what
+/// stands there alone.
 fn same(told: &Told, fault: Fault) -> bool {
     let (number, place) = fault.numbers();
-    number == told.refused.0 && place.is_none_or(|place| place == told.refused.1)
+    let there = || takes_before(told) && alone(told).is_some_and(|alone| theirs::given(alone) == Err(fault));
+    number == told.refused.0 && place.map_or_else(there, |place| place == told.refused.1)
 }
 
-/// What stands behind the `&` of our refusal, up to the next `;` and with no `&` between.
+/// Whether the crate takes what stands before our refusal, as ours does.
+fn takes_before(told: &Told) -> bool {
+    theirs::given(&told.content[..told.refused.1]).is_ok_and(|text| text.as_bytes() == told.before)
+}
+
+/// The reference of our refusal, from its `&` to the next `;`, with no `&` between.
+fn alone<'a>(told: &Told<'a>) -> Option<&'a str> {
+    let (_, at) = told.refused;
+    let end = at + 1 + told.content[at + 1..].find(['&', ';'])?;
+    told.content[..=end].ends_with(';').then_some(&told.content[at..=end])
+}
+
+/// What stands between its marks.
 fn reference<'a>(told: &Told<'a>) -> Option<&'a [u8]> {
-    let behind = &told.content[told.refused.1 + 1..];
-    let end = behind.iter().position(|b| b"&;".contains(b))?;
-    (behind[end] == b';').then_some(&behind[..end])
+    let alone = alone(told)?.as_bytes();
+    Some(&alone[1..alone.len() - 1])
 }
 
 /// Whether a value is of Unicode but not of XML, 0 aside: the 30 that the crate takes.
@@ -65,15 +76,24 @@ fn is_taken(told: &Told) -> bool {
     told.refused.0 == NO_CHARACTER && value(told).is_some()
 }
 
-/// The character stands in the text behind what we read; or an error of a reference behind it comes.
+/// The crate takes all before it and the reference alone, so that the character stands in the text behind what we read; or an error of a reference behind it
+/// comes.
 fn taken(told: &Told) -> bool {
-    match told.given {
-        Ok(text) => {
-            let behind = text.get(told.before.len()..).and_then(|behind| behind.chars().next());
-            text.as_bytes().starts_with(told.before) && behind.map(u32::from) == value(told)
+    let mut bytes = told.before.to_vec();
+    value(told).iter().for_each(|&value| account::encode(value, &mut bytes));
+    let is_there = alone(told).is_some_and(|alone| theirs::given(alone).is_ok_and(|text| text.as_bytes() == &bytes[told.before.len()..]));
+    takes_before(told)
+        && is_there
+        && match told.given {
+            Ok(text) => text.as_bytes().starts_with(&bytes),
+            Err(fault) => *fault != Fault::Unknown && fault.numbers().1.is_none_or(|place| place > told.refused.1),
         }
-        Err(fault) => *fault != Fault::Unknown && fault.numbers().1.is_none_or(|place| place > told.refused.1),
-    }
+}
+
+/// The crate says so of the reference alone too, and takes all before it.
+fn overflow(told: &Told) -> bool {
+    let fault = Err(Fault::PosOverflow);
+    *told.given == fault && takes_before(told) && alone(told).is_some_and(|alone| theirs::given(alone) == fault)
 }
 
 /// Digits that pass 32 bits, and behind them a byte that is none.

@@ -150,7 +150,7 @@ impl Recorder {
     /// Takes a content if it shows something that none so far does.
     fn take(&mut self, look: &Look) {
         let given = theirs::given(look.asked);
-        let told = look.refused.map(|refused| Told { content: look.asked.as_bytes(), refused, before: look.bytes, given: &given });
+        let told = look.refused.map(|refused| Told { content: look.asked, refused, before: look.bytes, given: &given });
         let row = match told.map_or(Ok(None), |told| listed::which(&told)) {
             Ok(row) => row.unwrap_or(listed::COUNT),
             Err(()) => {

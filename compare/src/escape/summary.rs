@@ -92,7 +92,7 @@ impl Tally {
             Some(row) => {
                 self.listed[which][row] += 1;
                 self.taken += (which == 0 && told.given.is_ok()) as u64;
-                self.shorter(row, told.content);
+                self.shorter(row, told.content.as_bytes());
             }
             None => {
                 self.same[which] += 1;
