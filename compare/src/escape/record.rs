@@ -28,11 +28,12 @@ use std::path::Path;
 const OF_EACH: usize = 40;
 const ALIKE: usize = 300;
 const LONGEST: usize = 60;
-/// Contents without a difference that end alike and have as many references, at most, but for those with some that are taken; of a family one in so many of those that are wanted, and so many of a job of it; in the second
-/// round, which takes any content, twice as many.
+/// Contents without a difference that end alike and have as many references, at most, but for those with some that are taken; of a family one in so many of those
+/// that are wanted, and so many of a job of it. In the second round, which takes any content, twice as many, and in the third as many as are wanted.
 const OF_A_CLASS: usize = 10;
 const FAMILIES: usize = 16;
 const OF_A_JOB: usize = 2;
+const ROUNDS: [usize; 3] = [1, 2, ALIKE];
 /// One content in so many of those that are compared is looked at.
 const OF: usize = 23;
 
@@ -48,8 +49,8 @@ struct Recorder {
     of_family: [[usize; 2]; listed::COUNT + 1],
     of_job: usize,
     failed: bool,
-    /// Take a content that shows nothing new, too.
-    any: bool,
+    /// From 0. From the second on a content is taken that shows nothing new, too.
+    round: usize,
 }
 
 /// How many are wanted, by the row and whether they are single references.
@@ -159,14 +160,14 @@ impl Recorder {
             }
         };
         let shown = features(look, row, &given);
-        let fresh = self.any || shown.iter().any(|feature| !self.seen.contains(feature));
+        let fresh = self.round > 0 || shown.iter().any(|feature| !self.seen.contains(feature));
         let lines = lines(look, row, &given);
         let (kind, most) = (look.single as usize, most(row, look.single as usize));
         let contents = &mut self.contents[row][kind];
         let fault = given.as_ref().err().map_or(0, |fault| 1 + fault.row());
         let references = look.asked.matches('&').count().min(4);
         let class = self.classes.entry((row, look.single, fault, references)).or_default();
-        let times = if self.any { 2 } else { 1 };
+        let times = ROUNDS[self.round];
         let many = row < listed::COUNT || look.refused.is_none() && references > 0;
         let enough = !many && *class >= times * OF_A_CLASS || self.of_family[row][kind] >= times * most.div_ceil(FAMILIES);
         if !fresh || enough || contents.len() >= most || contents.contains(&lines) {
@@ -193,7 +194,7 @@ impl Sink for Recorder {
         if let Ok(content) = std::str::from_utf8(content) {
             self.look(content);
         }
-        if self.failed || self.of_job >= if self.any { 2 * OF_A_JOB } else { OF_A_JOB } {
+        if self.failed || self.full() || self.of_job >= ROUNDS[self.round] * OF_A_JOB {
             return Flow::Break(());
         }
         ON
@@ -211,14 +212,14 @@ fn recorded(seed: u64) -> Option<(String, String)> {
         of_family: Default::default(),
         of_job: 0,
         failed: false,
-        any: false,
+        round: 0,
     };
     for content in examples::contents() {
         recorder.look(content);
         recorder.of_family = Default::default();
     }
-    for any in [false, true] {
-        recorder.any = any;
+    for round in 0..ROUNDS.len() {
+        recorder.round = round;
         for family in inputs::texts(seed) {
             recorder.of_family = Default::default();
             let mut jobs: Vec<usize> = (0..family.jobs).collect();
