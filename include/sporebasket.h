@@ -1,6 +1,6 @@
-/* Sporebasket: a verified reader of XML events, of attributes, and of columns of times. Link libsporebasket.a, which `tools/host-staticlib capi` makes.
+/* Sporebasket: a verified reader of XML events, of attributes, of references, and of columns of times. Link libsporebasket.a, which `tools/host-staticlib capi` makes.
  *
- * The host lends all memory: the document, a stack for the open names, the state of a reader, a column and room for an answer. Nothing is kept between
+ * The host lends all memory: the document, a stack for the open names, the state of a reader, a buffer, a column and room for an answer. Nothing is kept between
  * calls but what stands there, so each thread may have a reader of its own, over one document too. Every function but
  * sporebasket_default_settings answers 0 or the number of a refusal, and asks nothing of the numbers that it is lent: whatever they are, the
  * answer is the one that docs/PROMISES.md states. It asks of C what C cannot be asked to check: a pointer is to as many bytes or slots as its
@@ -112,6 +112,14 @@ enum {
     SPOREBASKET_ATTRIBUTE_SLOTS
 };
 
+/* The slots of the answer of sporebasket_reference and sporebasket_unescape. WRITTEN is how many bytes were written, 0 in a refusal. PLACE is where in the content
+ * sporebasket_unescape refused, and 0 else. */
+enum {
+    SPOREBASKET_UNESCAPE_WRITTEN,
+    SPOREBASKET_UNESCAPE_PLACE,
+    SPOREBASKET_UNESCAPE_SLOTS
+};
+
 /* The slots of the answer of sporebasket_column. COUNT is how many times stand in the column, LOWER the first index, from 0, whose time is lower than the one
  * before it, or 0 where the column never decreases: index 0 has none before it. The others are 0 where nothing is refused; else they are those of the refusal, as
  * sporebasket_read_event gives them. The piece of 30 and 31 is that of the text or the reference, and PLACE its start; EXPECTED and FOUND are 0 there. */
@@ -131,7 +139,7 @@ enum {
 
 /* The refusals. 18 is given where end of file is due, CHECK_OPEN_NAMES is on, a name is open and the MARK is off. So it comes once, instead of the first end of
  * file, and not after a refusal that ended the run (1 to 8, 13 to 15). Its piece is that of the end of file, and it takes no name away; end of file follows.
- * 19 to 24 are of the two functions for attributes, 30 and 31 of sporebasket_column alone. */
+ * 19 to 24 are of the two functions for attributes, 25 to 27 of the two for references, 30 and 31 of sporebasket_column alone. */
 enum {
     SPOREBASKET_UNCLOSED_TAG = 1,
     SPOREBASKET_UNCLOSED_SINGLE_QUOTED_ATTRIBUTE_VALUE,
@@ -157,6 +165,9 @@ enum {
     SPOREBASKET_NO_QUOTE,
     SPOREBASKET_LESS_THAN,
     SPOREBASKET_NAME_USED,
+    SPOREBASKET_BAD_REFERENCE,
+    SPOREBASKET_BAD_CHARACTER,
+    SPOREBASKET_BUFFER_FULL,
     SPOREBASKET_BAD_TIME = 30,
     SPOREBASKET_COLUMN_FULL
 };
@@ -225,6 +236,25 @@ size_t sporebasket_attribute(const uint8_t *document, size_t length, size_t from
  * `wanted`. Where there is none FOUND is 0, and a refusal that is met before it is told as there. 17, at 0: as there, but that no `at` is handed in. */
 size_t sporebasket_find_attribute(const uint8_t *document, size_t length, size_t from, size_t to, size_t name, const uint8_t *wanted,
                                   size_t wanted_length, size_t *answer, size_t answer_slots);
+
+/* Writes the character that a reference stands for into the buffer, from `at` on, as UTF-8. The content is what stands between `&` and `;`, as that of a GENERAL_REF is: one of `lt`, `gt`, `amp`,
+ * `apos` and `quot`; `#` and decimal digits; or `#x` and hexadecimal digits of either case. There may be any number of digits, leading zeros among them.
+ * 0: the bytes are written, 1 to 4 of them, and no other byte of the buffer changes. A refusal leaves the whole buffer as it was. The first of these that is so:
+ * - 25: the content is none of these. So are `#`, `#x`, `#X41`, `#+1` and nothing at all.
+ * - 26: the number is that of no character of XML, which are 9, A, D, 20 to D7FF, E000 to FFFD and 10000 to 10FFFF, in hexadecimal.
+ * - 27: the bytes do not fit into the buffer from `at` on, or `at` is more than `buffer_length`.
+ * 17, before all else: the answer has fewer than SPOREBASKET_UNESCAPE_SLOTS slots, and nothing is written. Slots past those are left alone. */
+size_t sporebasket_reference(const uint8_t *content, size_t length, uint8_t *buffer, size_t buffer_length, size_t at, size_t *answer,
+                             size_t answer_slots);
+
+/* Writes a content with references between into the buffer, from `at` on, each reference replaced by its character and every other byte as it is. A reference goes from `&` to the next `;`,
+ * whatever stands between. 0: WRITTEN bytes are written, and no other byte of the buffer changes. A refusal leaves the whole buffer as it was. It is the first from the left, and PLACE tells where it stands:
+ * - 25 and 26: as sporebasket_reference has them, or an `&` has no `;` behind it (25). PLACE is the `&`.
+ * - 27: what is due does not fit. PLACE is the `&` of a reference that is good, or the byte that does not fit; where nothing is left to write, and `at` is more than `buffer_length`, it is `length`.
+ * 17: as there. What is written is never longer than the content, so that a buffer with as many bytes from `at` on as the content has never gives 27. It is UTF-8 where the content is. The buffer does not
+ * overlap with the content: nothing is replaced in place. */
+size_t sporebasket_unescape(const uint8_t *content, size_t length, uint8_t *buffer, size_t buffer_length, size_t at, size_t *answer,
+                            size_t answer_slots);
 
 /* Reads the times of a timetable's column: goes through the whole document with the default settings, and fills the column with the times of its texts within
  * `t`, in the order of the document. A text is within `t` where the latest open name is `t`. White space at both its ends does not count; where nothing else is
