@@ -49,7 +49,7 @@ pub enum Error {
     InvalidAttr(AttrError),
     /// The piece is not UTF-8: 13. Its place is the first byte of the first sequence that is not. It ends the run.
     Encoding(EncodingError),
-    /// A reference cannot be resolved.
+    /// A reference cannot be replaced: 25 or 26. No call of a reader gives it; it is made by `?` from what [`unescape`](crate::escape::unescape) and the like give.
     Escape(EscapeError),
     /// A name's namespace is wrong.
     Namespace(NamespaceError),

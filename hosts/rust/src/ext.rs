@@ -17,7 +17,11 @@
 
 use crate::errors::{Error, IllFormedError, Refused, SyntaxError};
 use crate::events::attributes::{AttrError, AttrRefused};
+use crate::lent;
 use crate::name::QName;
+use std::borrow::Cow;
+use std::error;
+use std::fmt;
 use std::ops::Range;
 
 /// The traits are for the types here alone, so that each may have more to tell.
@@ -28,6 +32,7 @@ mod sealed {
 
     impl<R> Sealed for crate::Reader<R> {}
     impl Sealed for crate::Error {}
+    impl Sealed for str {}
     impl Sealed for crate::events::attributes::AttrError {}
     impl Sealed for Event<'_> {}
     impl Sealed for BytesStart<'_> {}
@@ -226,6 +231,7 @@ pub struct Place {
 /// What an [`Error`] tells beyond quick-xml's.
 pub trait ErrorExt: sealed::Sealed {
     /// The number of the refusal: 1 to 18, or that of [`AttrErrorExt::number`]; none for an error that neither [`read_event`](crate::Reader::read_event) nor the reading of attributes gives.
+    /// That of an [`Escape`](Error::Escape) does not follow from quick-xml's cases: [`StrExt::unescaped`] tells it.
     ///
     /// ```
     /// use sporebasket::errors::{Error, IllFormedError};
@@ -330,3 +336,55 @@ impl AttrErrorExt for AttrError {
         }
     }
 }
+
+/// What a text with references tells beyond quick-xml's.
+pub trait StrExt: sealed::Sealed {
+    /// [`unescape`](crate::escape::unescape), with the number of a refusal and its place.
+    ///
+    /// ```
+    /// use sporebasket::ext::StrExt;
+    ///
+    /// assert_eq!("Bar &amp; Grill".unescaped()?, "Bar & Grill");
+    /// let refused = "Bar & Grill &#1;".unescaped().unwrap_err();
+    /// assert_eq!((refused.number, refused.position), (25, 4));
+    /// assert_eq!("Bar &amp; &#1;".unescaped().unwrap_err().to_string(), "position 10: a reference to no character of XML");
+    /// # Ok::<(), sporebasket::ext::BadReference>(())
+    /// ```
+    fn unescaped(&self) -> Result<Cow<'_, str>, BadReference>;
+}
+
+impl StrExt for str {
+    fn unescaped(&self) -> Result<Cow<'_, str>, BadReference> {
+        if !self.contains('&') {
+            return Ok(Cow::Borrowed(self));
+        }
+        lent::unescaped(self)
+            .map(Cow::Owned)
+            .map_err(|(number, position)| BadReference {
+                number: number as u8,
+                position,
+            })
+    }
+}
+
+/// The first reference in a text that is refused.
+#[derive(Clone, Copy, Debug, PartialEq, Eq, Hash)]
+#[non_exhaustive]
+pub struct BadReference {
+    /// The number of the refusal. 25: neither one of the five names nor a number of digits, or no `;` behind the `&`. 26: the number of no character of XML.
+    pub number: u8,
+    /// The position of the `&`.
+    pub position: usize,
+}
+
+impl fmt::Display for BadReference {
+    fn fmt(&self, f: &mut fmt::Formatter<'_>) -> fmt::Result {
+        let what = match self.number {
+            25 => "neither a reference by one of the five names nor one by a number",
+            _ => "a reference to no character of XML",
+        };
+        write!(f, "position {}: {what}", self.position)
+    }
+}
+
+impl error::Error for BadReference {}

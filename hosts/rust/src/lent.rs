@@ -29,6 +29,7 @@ use std::str;
 
 pub use crate::raw::{
     ANSWER_SLOTS, ATTRIBUTE_SLOTS, COLUMN_SLOTS, LONGEST, MOST_NAMES, NAME_SLOTS, PART_SLOTS, STATE_SLOTS,
+    UNESCAPE_SLOTS,
 };
 
 /// The settings of a reader to which none are given, a bit each.
@@ -258,6 +259,104 @@ pub fn find_attribute(
             answer.len(),
         )
     }
+}
+
+/// Writes the character that a reference stands for into the buffer, from `at` on, as UTF-8, and writes the answer. The content is what stands between `&` and `;`: one of `lt`, `gt`, `amp`, `apos` and
+/// `quot`, `#` and decimal digits, or `#x` and hexadecimal digits, any number of them.
+///
+/// 0: the answer's first slot is how many bytes were written, 1 to 4, and the second is 0. Every other byte of the buffer stays.
+///
+/// The first of these that is so is refused, and the buffer left as it was. 25: the content is none of these; 26: the number is that of no character of XML; 27: the bytes do not fit, or `at` is past the
+/// buffer's end. Both slots are 0 then. 17, before all else: the answer has fewer than [`UNESCAPE_SLOTS`] slots, and nothing is written.
+///
+/// ```
+/// use sporebasket::lent;
+///
+/// let (mut buffer, mut answer) = ([b'.'; 6], [0; lent::UNESCAPE_SLOTS]);
+/// assert_eq!(lent::reference(b"#x2192", &mut buffer, 1, &mut answer), 0);
+/// assert_eq!((&buffer, answer), (".\u{2192}..".as_bytes().try_into().unwrap(), [3, 0]));
+///
+/// assert_eq!(lent::reference(b"arr", &mut buffer, 7, &mut answer), 25);
+/// assert_eq!(lent::reference(b"#xFFFE", &mut buffer, 7, &mut answer), 26);
+/// assert_eq!(lent::reference(b"#x2192", &mut buffer, 4, &mut answer), 27);
+/// assert_eq!((&buffer, answer), (".\u{2192}..".as_bytes().try_into().unwrap(), [0, 0]));
+/// ```
+pub fn reference(content: &[u8], buffer: &mut [u8], at: usize, answer: &mut [usize]) -> usize {
+    // SAFETY: pointers and counts are those of slices, so no pointer is null; the two that are written to are lent exclusively, so they
+    // overlap neither with each other nor with the content.
+    unsafe {
+        raw::sporebasket_reference(
+            content.as_ptr(),
+            content.len(),
+            buffer.as_mut_ptr(),
+            buffer.len(),
+            at,
+            answer.as_mut_ptr(),
+            answer.len(),
+        )
+    }
+}
+
+/// The character of a reference, by its content, if it is one that [`reference()`] takes.
+pub(crate) fn character(content: &str) -> Option<char> {
+    let (mut buffer, mut answer) = ([0; 4], [0; UNESCAPE_SLOTS]);
+    match reference(content.as_bytes(), &mut buffer, 0, &mut answer) {
+        0 => str::from_utf8(buffer.get(..answer[0])?).ok()?.chars().next(),
+        _ => None,
+    }
+}
+
+/// Writes a content with references between into the buffer, from `at` on, and writes the answer: each reference, from `&` to the next `;`, is replaced by its character, and every other byte stands as it is.
+///
+/// 0: the answer's first slot is how many bytes were written, and the second is 0. Every other byte of the buffer stays. What is written is never longer than the content, and is UTF-8 where the content is.
+///
+/// The first fault from the left is refused, and the buffer left as it was; the first slot is 0 and the second the fault's place in the content. 25 and 26, at the `&`: as [`reference()`] has them, and 25 where
+/// there is no `;`. 27, at the `&` or the byte: what is due does not fit; at the content's end: nothing is left to write, and `at` is past the buffer's end. 17, before all else: the answer has fewer than
+/// [`UNESCAPE_SLOTS`] slots, and nothing is written.
+///
+/// ```
+/// use sporebasket::lent;
+///
+/// let (mut buffer, mut answer) = ([b'.'; 8], [0; lent::UNESCAPE_SLOTS]);
+/// assert_eq!(lent::unescape(b"a &lt; b", &mut buffer, 0, &mut answer), 0);
+/// assert_eq!((&buffer, answer), (b"a < b...", [5, 0]));
+///
+/// assert_eq!(lent::unescape(b"ab&zz;", &mut buffer, 0, &mut answer), 25);
+/// assert_eq!(answer, [0, 2]);
+/// // no room for `b`
+/// assert_eq!(lent::unescape(b"ab&zz;", &mut buffer, 7, &mut answer), 27);
+/// assert_eq!((&buffer, answer), (b"a < b...", [0, 1]));
+/// ```
+pub fn unescape(content: &[u8], buffer: &mut [u8], at: usize, answer: &mut [usize]) -> usize {
+    // SAFETY: pointers and counts are those of slices, so no pointer is null; the two that are written to are lent exclusively, so they
+    // overlap neither with each other nor with the content.
+    unsafe {
+        raw::sporebasket_unescape(
+            content.as_ptr(),
+            content.len(),
+            buffer.as_mut_ptr(),
+            buffer.len(),
+            at,
+            answer.as_mut_ptr(),
+            answer.len(),
+        )
+    }
+}
+
+/// [`unescape`] of a string to one that is as long at most, or the number of the refusal and its place.
+///
+/// What is written is UTF-8, since the content is: that is a theorem (docs/PROMISES.md). So it is not checked once more, but with the feature `checked`.
+pub(crate) fn unescaped(content: &str) -> Result<String, (usize, usize)> {
+    let (mut buffer, mut answer) = (vec![0; content.len()], [0; UNESCAPE_SLOTS]);
+    match unescape(content.as_bytes(), &mut buffer, 0, &mut answer) {
+        0 => buffer.truncate(answer[0]),
+        number => return Err((number, answer[1])),
+    }
+    if cfg!(feature = "checked") {
+        return String::from_utf8(buffer).map_err(|_| (BAD_STATE, 0));
+    }
+    // SAFETY: these are the bytes that the call above wrote for a content that is UTF-8, and those are UTF-8.
+    Ok(unsafe { String::from_utf8_unchecked(buffer) })
 }
 
 /// Reads the whole document from its start with the default settings, and fills the column with the times within `t`, each as its minutes; writes the answer, and the

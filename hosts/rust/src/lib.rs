@@ -28,8 +28,9 @@
 //! quick-xml's is in [`ext`].
 //!
 //! What is refused has a number, 1 to 18, and a place: see [`Error`]. A document has at most [`LONGEST`](lent::LONGEST) bytes, at most
-//! [`MOST_NAMES`](lent::MOST_NAMES) names are open at once, and a document type is refused. References are handed over as they stand.
-//! [`attributes`](events::attributes) reads those of a tag, and refuses by the numbers 19 to 24.
+//! [`MOST_NAMES`](lent::MOST_NAMES) names are open at once, and a document type is refused.
+//! [`attributes`](events::attributes) reads those of a tag, and refuses by the numbers 19 to 24. References are handed over as they stand; [`mod@escape`] replaces them, and refuses by
+//! 25 and 26.
 //! With [`check_open_names`](reader::Config::check_open_names) a document that ends while names are open is refused: where
 //! [`Eof`](events::Event::Eof) comes and no error before it, every element was closed.
 //!
@@ -67,3 +68,11 @@ mod time;
 pub use errors::{Error, Result};
 #[doc(inline)]
 pub use reader::Reader;
+
+/// The version of XML by whose rules the value of an attribute is told. The cases of 0.42 for a version that a declaration tells are not here: their names are not known from the files given.
+#[derive(Clone, Copy, Debug, PartialEq, Eq)]
+#[non_exhaustive]
+pub enum XmlVersion {
+    /// XML 1.0, as of a document that does not tell its version.
+    Implicit1_0,
+}

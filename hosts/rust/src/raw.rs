@@ -64,6 +64,28 @@ extern "C" {
         slots: usize,
     ) -> usize;
 
+    /// Writes the character of a reference into the buffer, and the answer: 0, or the refusal's number.
+    pub fn sporebasket_reference(
+        content: *const u8,
+        length: usize,
+        buffer: *mut u8,
+        buffer_length: usize,
+        at: usize,
+        answer: *mut usize,
+        slots: usize,
+    ) -> usize;
+
+    /// Writes a content into the buffer with its references replaced, and the answer: 0, or the refusal's number.
+    pub fn sporebasket_unescape(
+        content: *const u8,
+        length: usize,
+        buffer: *mut u8,
+        buffer_length: usize,
+        at: usize,
+        answer: *mut usize,
+        slots: usize,
+    ) -> usize;
+
     /// Fills the column with the times of the whole document, and writes the stack and the answer: 0, or the refusal's number.
     pub fn sporebasket_column(
         document: *const u8,
@@ -97,6 +119,9 @@ pub const PART_SLOTS: usize = 2;
 
 /// The slots of an attribute's answer: found, name, value, next, place, quote and first, a span in two slots.
 pub const ATTRIBUTE_SLOTS: usize = 9;
+
+/// The slots of an answer for references: how many bytes were written, and the place of a refusal.
+pub const UNESCAPE_SLOTS: usize = 2;
 
 /// The slots of a column's answer: count, lower, number, place, piece, expected and found, a span in two slots.
 pub const COLUMN_SLOTS: usize = 10;

@@ -1,7 +1,7 @@
 //! The attributes of a tag, and how they are not well formed.
 //!
 //! The archive reads them, by the same proved code for [`Attributes`] and for [`try_get_attribute`](crate::events::BytesStart::try_get_attribute). A value is the text between the quotes, as it
-//! stands: references in it are not resolved.
+//! stands; [`normalized_value`](Attribute::normalized_value) has its references replaced.
 //!
 //! ```
 //! use sporebasket::events::Event;
@@ -17,9 +17,12 @@
 //! ```
 
 use super::name_len;
+use crate::errors::Result as XmlResult;
+use crate::escape::{escape_attribute, normalize_xml10_attribute_value, normalize_xml10_predefined};
 use crate::lent::{self, ATTRIBUTE_SLOTS};
 use crate::name::QName;
 use crate::raw::attribute as slot;
+use crate::XmlVersion;
 use std::borrow::Cow;
 use std::error;
 use std::fmt;
@@ -45,7 +48,76 @@ pub struct Attribute<'a> {
     pub value: Cow<'a, str>,
 }
 
-impl Attribute<'_> {
+impl<'a> Attribute<'a> {
+    /// The value as XML wants it told: a tab, `\r\n`, `\r` and `\n` are spaces, and references are replaced by their characters. A reference to white space, as `&#10;`, becomes that.
+    ///
+    /// ```
+    /// use sporebasket::events::BytesStart;
+    /// use sporebasket::XmlVersion;
+    ///
+    /// let tag = BytesStart::from_content("r to='Bar &amp; Grill\r\n&#x2192; Brig'", 1);
+    /// let to = tag.try_get_attribute("to")?.unwrap();
+    /// assert_eq!(to.normalized_value(XmlVersion::Implicit1_0)?, "Bar & Grill \u{2192} Brig");
+    /// assert_eq!(to.value, "Bar &amp; Grill\r\n&#x2192; Brig");
+    /// # Ok::<(), sporebasket::Error>(())
+    /// ```
+    pub fn normalized_value(&self, version: XmlVersion) -> XmlResult<Cow<'a, str>> {
+        let XmlVersion::Implicit1_0 = version;
+        Ok(self.own(normalize_xml10_predefined(&self.value)?))
+    }
+
+    /// The same, with what the resolver gives for the name of an entity, but for `amp`. White space and references in that are replaced too, and so on, down to this depth; deeper ones are refused
+    /// ([`TooManyNestedEntities`](crate::escape::EscapeError::TooManyNestedEntities)).
+    ///
+    /// ```
+    /// use sporebasket::escape::resolve_predefined_entity;
+    /// use sporebasket::events::BytesStart;
+    /// use sporebasket::XmlVersion;
+    ///
+    /// let tag = BytesStart::from_content("r to='&grill; &lt;3'", 1);
+    /// let to = tag.try_get_attribute("to")?.unwrap();
+    /// let resolve = |name: &str| match name {
+    ///     "grill" => Some("Bar\n&amp; Grill"),
+    ///     _ => resolve_predefined_entity(name),
+    /// };
+    /// assert_eq!(to.normalized_value_with(XmlVersion::Implicit1_0, 2, resolve)?, "Bar & Grill <3");
+    /// assert!(to.normalized_value_with(XmlVersion::Implicit1_0, 1, resolve).is_err());
+    /// # Ok::<(), sporebasket::Error>(())
+    /// ```
+    pub fn normalized_value_with<'entity>(
+        &self,
+        version: XmlVersion,
+        depth: usize,
+        resolve_entity: impl FnMut(&str) -> Option<&'entity str>,
+    ) -> XmlResult<Cow<'a, str>> {
+        let XmlVersion::Implicit1_0 = version;
+        Ok(self.own(normalize_xml10_attribute_value(&self.value, depth, resolve_entity)?))
+    }
+
+    /// [`normalized_value`](Self::normalized_value) by XML 1.0.
+    #[deprecated = "use `Self::normalized_value()`"]
+    pub fn unescape_value(&self) -> XmlResult<Cow<'a, str>> {
+        self.normalized_value(XmlVersion::Implicit1_0)
+    }
+
+    /// [`normalized_value_with`](Self::normalized_value_with) by XML 1.0, down to the depth of 128.
+    #[deprecated = "use `Self::normalized_value_with()`"]
+    #[inline]
+    pub fn unescape_value_with<'entity>(
+        &self,
+        resolve_entity: impl FnMut(&str) -> Option<&'entity str>,
+    ) -> XmlResult<Cow<'a, str>> {
+        self.normalized_value_with(XmlVersion::Implicit1_0, 128, resolve_entity)
+    }
+
+    /// Text made of the value: the value itself where nothing was replaced.
+    fn own(&self, made: Cow<'_, str>) -> Cow<'a, str> {
+        match made {
+            Cow::Borrowed(_) => self.value.clone(),
+            Cow::Owned(text) => Cow::Owned(text),
+        }
+    }
+
     /// Yes for the values `1` and `true`, no for `0` and `false`, none for any other.
     ///
     /// ```
@@ -61,6 +133,29 @@ impl Attribute<'_> {
             "1" | "true" => Some(true),
             "0" | "false" => Some(false),
             _ => None,
+        }
+    }
+}
+
+impl<'a> From<(&'a str, &'a str)> for Attribute<'a> {
+    /// Of a name, and a value in which references come to stand for what a value may not have as it is.
+    ///
+    /// ```
+    /// use sporebasket::events::attributes::Attribute;
+    ///
+    /// assert_eq!(Attribute::from(("to", "Bar & Grill")).value, "Bar &amp; Grill");
+    /// ```
+    fn from((key, value): (&'a str, &'a str)) -> Self {
+        Attribute::from((key, Cow::Borrowed(value)))
+    }
+}
+
+impl<'a> From<(&'a str, Cow<'a, str>)> for Attribute<'a> {
+    /// The same of a value that may be its own.
+    fn from((key, value): (&'a str, Cow<'a, str>)) -> Self {
+        Attribute {
+            key: QName(key),
+            value: escape_attribute(value),
         }
     }
 }

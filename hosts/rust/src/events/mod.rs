@@ -2,7 +2,8 @@
 
 pub mod attributes;
 
-use crate::escape::escape;
+use crate::errors::Error;
+use crate::escape::{char_ref, escape, unescape};
 use crate::ext::{EventExt, Place};
 use crate::name::{LocalName, QName};
 use attributes::{AttrError, Attribute, Attributes};
@@ -39,7 +40,7 @@ pub enum Event<'a> {
     Empty(BytesStart<'a>),
     /// Text between markup and references, as it stands.
     Text(BytesText<'a>),
-    /// A reference, `&amp;` or `&#39;`. It is not resolved.
+    /// A reference, `&amp;` or `&#39;`, as it stands.
     GeneralRef(BytesRef<'a>),
     /// A comment, `<!--a-->`.
     Comment(BytesText<'a>),
@@ -472,6 +473,56 @@ impl<'a> BytesStart<'a> {
         self
     }
 
+    /// The tag with these attributes behind those that it has.
+    ///
+    /// ```
+    /// use sporebasket::events::BytesStart;
+    ///
+    /// let tag = BytesStart::new("r").with_attributes([("n", "1"), ("to", "Bar & Grill")]);
+    /// assert_eq!(&*tag, "r n=\"1\" to=\"Bar &amp; Grill\"");
+    /// ```
+    pub fn with_attributes<'b, I>(mut self, attributes: I) -> Self
+    where
+        I: IntoIterator,
+        I::Item: Into<Attribute<'b>>,
+    {
+        self.extend_attributes(attributes);
+        self
+    }
+
+    /// Appends these attributes.
+    pub fn extend_attributes<'b, I>(&mut self, attributes: I) -> &mut BytesStart<'a>
+    where
+        I: IntoIterator,
+        I::Item: Into<Attribute<'b>>,
+    {
+        for attribute in attributes {
+            self.push_attribute(attribute);
+        }
+        self
+    }
+
+    /// Appends an attribute, its value in `"` and as it stands; that of a pair of strings is escaped. It is not asked whether the name is there already.
+    ///
+    /// ```
+    /// use sporebasket::events::BytesStart;
+    ///
+    /// let mut tag = BytesStart::new("r");
+    /// tag.push_attribute(("to", "Bar & Grill"));
+    /// assert_eq!(&*tag, "r to=\"Bar &amp; Grill\"");
+    /// ```
+    pub fn push_attribute<'b, A>(&mut self, attr: A)
+    where
+        A: Into<Attribute<'b>>,
+    {
+        let attribute = attr.into();
+        let mut text = mem::take(&mut self.0.text).into_owned();
+        for part in [" ", attribute.key.as_ref(), "=\"", &attribute.value, "\""] {
+            text.push_str(part);
+        }
+        *self = BytesStart::from_content(text, self.0.name_len);
+    }
+
     /// What follows the name, white space first, as it stands.
     ///
     /// ```
@@ -638,6 +689,21 @@ impl<'a> BytesText<'a> {
         self.0.text
     }
 
+    /// The text with its references replaced by their characters. Text that a [`Reader`](crate::Reader) gives has none: those are events of their own.
+    ///
+    /// ```
+    /// use sporebasket::events::BytesText;
+    ///
+    /// assert_eq!(BytesText::from_escaped("fish &amp; chips").unescape()?, "fish & chips");
+    /// # Ok::<(), sporebasket::Error>(())
+    /// ```
+    pub fn unescape(&self) -> Result<Cow<'a, str>, Error> {
+        Ok(match &self.0.text {
+            Cow::Borrowed(text) => unescape(text)?,
+            Cow::Owned(text) => Cow::Owned(unescape(text)?.into_owned()),
+        })
+    }
+
     /// Takes away the white space at the start; tells whether nothing is left.
     ///
     /// ```
@@ -714,6 +780,38 @@ macro_rules! plain {
 
 plain!(BytesCData);
 plain!(BytesRef);
+
+impl BytesRef<'_> {
+    /// Whether it is a reference by a number, `&#39;`.
+    ///
+    /// ```
+    /// use sporebasket::events::BytesRef;
+    ///
+    /// assert!(BytesRef::new("#39").is_char_ref());
+    /// assert!(!BytesRef::new("amp").is_char_ref());
+    /// ```
+    #[inline]
+    pub fn is_char_ref(&self) -> bool {
+        self.starts_with('#')
+    }
+
+    /// The character of a reference by a number; none of a reference by a name, for which [`resolve_xml_entity`](crate::escape::resolve_xml_entity) is.
+    ///
+    /// ```
+    /// use sporebasket::events::BytesRef;
+    ///
+    /// assert_eq!(BytesRef::new("#x2192").resolve_char_ref()?, Some('\u{2192}'));
+    /// assert_eq!(BytesRef::new("amp").resolve_char_ref()?, None);
+    /// assert!(BytesRef::new("#1").resolve_char_ref().is_err());
+    /// # Ok::<(), sporebasket::Error>(())
+    /// ```
+    pub fn resolve_char_ref(&self) -> Result<Option<char>, Error> {
+        if !self.is_char_ref() {
+            return Ok(None);
+        }
+        Ok(Some(char_ref(self)?))
+    }
+}
 
 /// An XML declaration: what stands between `<?` and `?>`, from `xml` on.
 ///
