@@ -15,7 +15,7 @@ pub mod utils;
 pub use errors::{Error, Result};
 pub use reader::{NsReader, Reader};
 
-/// The version that attribute values are normalized by. Nothing that is compared asks for it.
+/// The version that attribute values are normalized by: of its cases the one that the given files name.
 #[derive(Clone, Copy, Debug, PartialEq, Eq)]
 pub enum XmlVersion {
     Implicit1_0,
@@ -25,9 +25,9 @@ impl XmlVersion {
     pub fn normalize_attribute_value<'i, 'e>(
         &self,
         value: &'i str,
-        _depth: usize,
-        _resolve: impl FnMut(&str) -> Option<&'e str>,
+        depth: usize,
+        resolve: impl FnMut(&str) -> Option<&'e str>,
     ) -> std::result::Result<Cow<'i, str>, escape::EscapeError> {
-        Ok(Cow::Borrowed(value))
+        escape::normalize_xml10_attribute_value(value, depth, resolve)
     }
 }

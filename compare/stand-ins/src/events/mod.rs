@@ -2,7 +2,8 @@
 
 pub mod attributes;
 
-use crate::escape::escape;
+use crate::errors::Error;
+use crate::escape::{escape, parse_number, EscapeError};
 use crate::name::{LocalName, QName};
 use crate::utils::{name_len, trim_xml_end, trim_xml_start, write_cow_string};
 use attributes::{AttrError, Attribute, Attributes};
@@ -79,6 +80,23 @@ impl<'a> BytesStart<'a> {
     pub fn clear_attributes(&mut self) -> &mut Self {
         self.buf.to_mut().truncate(self.name_len);
         self
+    }
+
+    pub fn with_attributes<'b, I: IntoIterator<Item: Into<Attribute<'b>>>>(mut self, attributes: I) -> Self {
+        self.extend_attributes(attributes);
+        self
+    }
+
+    pub fn extend_attributes<'b, I: IntoIterator<Item: Into<Attribute<'b>>>>(&mut self, attributes: I) -> &mut Self {
+        for attribute in attributes {
+            self.push_attribute(attribute);
+        }
+        self
+    }
+
+    pub fn push_attribute<'b>(&mut self, attr: impl Into<Attribute<'b>>) {
+        let attr = attr.into();
+        self.buf.to_mut().push_str(&format!(" {}=\"{}\"", attr.key.as_ref(), attr.value));
     }
 
     pub fn attributes_raw(&self) -> &str {
@@ -346,6 +364,15 @@ impl<'a> BytesCData<'a> {
 impl<'a> BytesRef<'a> {
     pub fn new(content: impl Into<Cow<'a, str>>) -> Self {
         Self::wrap(content)
+    }
+
+    pub fn is_char_ref(&self) -> bool {
+        self.content.starts_with('#')
+    }
+
+    pub fn resolve_char_ref(&self) -> Result<Option<char>, Error> {
+        let number = self.content.strip_prefix('#').map(parse_number).transpose();
+        number.map_err(|error| EscapeError::InvalidCharRef(error).into())
     }
 }
 
