@@ -1,6 +1,6 @@
 /* Lists the events of a document, from a file or standard input, by the C interface: a line to each answer, up to the end of file. Before the file's name
- * may stand --check-open-names: then a document that ends while names are open is refused (18) before its end of file; or --attributes: then the attributes of
- * a tag stand behind it, a line to each.
+ * may stand --check-open-names: then a document that ends while names are open is refused (18) before its end of file; --attributes: then the attributes of
+ * a tag stand behind it, a line to each; or --references: then the bytes of its character stand behind a reference, in hexadecimal.
  *
  *   cc -I include hosts/c/events.c target/host/libsporebasket.a -o events
  */
@@ -54,10 +54,32 @@ static void say_attributes(const uint8_t *document, size_t length, const size_t 
     }
 }
 
+/* A reference has the bytes of its character; a refusal its number and the place of the reference. */
+static void say_character(const uint8_t *document, const size_t *reference)
+{
+    size_t from = reference[SPOREBASKET_ANSWER_CONTENT_FROM];
+    size_t answer[SPOREBASKET_UNESCAPE_SLOTS];
+    uint8_t buffer[4];
+    size_t i, refusal;
+
+    refusal = sporebasket_reference(document + from, reference[SPOREBASKET_ANSWER_CONTENT_TO] - from, buffer, sizeof buffer, 0, answer,
+                                    SPOREBASKET_UNESCAPE_SLOTS);
+    if (refusal != 0) {
+        printf("%s %zu %zu\n", words[0], refusal, reference[SPOREBASKET_ANSWER_PIECE_FROM]);
+        return;
+    }
+    printf("character");
+    for (i = 0; i < answer[SPOREBASKET_UNESCAPE_WRITTEN]; i++) {
+        printf(" %02x", buffer[i]);
+    }
+    putchar('\n');
+}
+
 /* What is asked for besides the events. */
 struct asked {
     int check;
     int attributes;
+    int references;
 };
 
 /* 0 if there is no memory for the open names. */
@@ -84,6 +106,9 @@ static int list(const uint8_t *document, size_t length, struct asked asked, stru
         if (asked.attributes && is_tag(lent->answer)) {
             say_attributes(document, length, lent->answer);
         }
+        if (asked.references && lent->answer[SPOREBASKET_ANSWER_KIND] == SPOREBASKET_GENERAL_REF) {
+            say_character(document, lent->answer);
+        }
         /* 17 does not come to who keeps the state as it was left; it would come again for ever */
     } while (refusal != SPOREBASKET_BAD_STATE && lent->answer[SPOREBASKET_ANSWER_KIND] != SPOREBASKET_EOF);
     return 1;
@@ -91,8 +116,9 @@ static int list(const uint8_t *document, size_t length, struct asked asked, stru
 
 int main(int argc, char **argv)
 {
-    struct asked asked = {argc > 1 && strcmp(argv[1], "--check-open-names") == 0, argc > 1 && strcmp(argv[1], "--attributes") == 0};
-    int file = 1 + asked.check + asked.attributes;
+    const char *option = argc > 1 ? argv[1] : "";
+    struct asked asked = {strcmp(option, "--check-open-names") == 0, strcmp(option, "--attributes") == 0, strcmp(option, "--references") == 0};
+    int file = 1 + asked.check + asked.attributes + asked.references;
     FILE *in = argc > file ? fopen(argv[file], "rb") : stdin;
     struct lent lent = {NULL, 0, {0}, {0}};
     size_t length = 0;

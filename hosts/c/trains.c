@@ -1,5 +1,5 @@
-/* Prints the numbers of the trains in a timetable, from a file or standard input, by the C interface: the value of `n` of each element `r` that has one, as it
- * stands, a line to each; `refused`, a number and a place, for what is refused; and how many trains there are.
+/* Prints the numbers of the trains in a timetable, from a file or standard input, by the C interface: the value of `n` of each element `r` that has one, with its
+ * references replaced, a line to each; `refused`, a number and a place, for what is refused; and how many trains there are.
  *
  *   cc -I include hosts/c/trains.c target/host/libsporebasket.a -o trains
  */
@@ -15,8 +15,23 @@ static void refuse(size_t number, size_t place)
     printf("refused %zu %zu\n", number, place);
 }
 
+/* Says a value with its references replaced. The buffer for that is as long as the document, so that there is always room. 1 if nothing is refused. */
+static size_t say_value(const uint8_t *document, size_t from, size_t to, uint8_t *buffer, size_t room)
+{
+    size_t answer[SPOREBASKET_UNESCAPE_SLOTS];
+    size_t refusal = sporebasket_unescape(document + from, to - from, buffer, room, 0, answer, SPOREBASKET_UNESCAPE_SLOTS);
+
+    if (refusal != 0) {
+        refuse(refusal, from + answer[SPOREBASKET_UNESCAPE_PLACE]);
+        return 0;
+    }
+    fwrite(buffer, 1, answer[SPOREBASKET_UNESCAPE_WRITTEN], stdout);
+    putchar('\n');
+    return 1;
+}
+
 /* Says the number of the train that the answer is the tag of: 1 if it has one. */
-static size_t say(const uint8_t *document, size_t length, const size_t *answer)
+static size_t say(const uint8_t *document, size_t length, const size_t *answer, uint8_t *buffer)
 {
     static const uint8_t n[] = {'n'};
     size_t from = answer[SPOREBASKET_ANSWER_CONTENT_FROM];
@@ -31,16 +46,16 @@ static size_t say(const uint8_t *document, size_t length, const size_t *answer)
                                          SPOREBASKET_ATTRIBUTE_SLOTS);
     if (refusal != 0) {
         refuse(refusal, found[SPOREBASKET_ATTRIBUTE_PLACE]);
-    } else if (found[SPOREBASKET_ATTRIBUTE_FOUND]) {
-        from = found[SPOREBASKET_ATTRIBUTE_VALUE_FROM];
-        fwrite(document + from, 1, found[SPOREBASKET_ATTRIBUTE_VALUE_TO] - from, stdout);
-        putchar('\n');
+        return 0;
     }
-    return found[SPOREBASKET_ATTRIBUTE_FOUND];
+    if (!found[SPOREBASKET_ATTRIBUTE_FOUND]) {
+        return 0;
+    }
+    return say_value(document, found[SPOREBASKET_ATTRIBUTE_VALUE_FROM], found[SPOREBASKET_ATTRIBUTE_VALUE_TO], buffer, length);
 }
 
 /* 0 if there is no memory for the open names. */
-static int list(const uint8_t *document, size_t length, struct lent *lent)
+static int list(const uint8_t *document, size_t length, uint8_t *buffer, struct lent *lent)
 {
     size_t refusal = sporebasket_new(document, length, sporebasket_default_settings(), lent->state, SPOREBASKET_STATE_SLOTS);
     size_t trains = 0;
@@ -60,7 +75,7 @@ static int list(const uint8_t *document, size_t length, struct lent *lent)
         } else if (lent->answer[SPOREBASKET_ANSWER_KIND] == SPOREBASKET_EOF) {
             break;
         } else {
-            trains += say(document, length, lent->answer);
+            trains += say(document, length, lent->answer, buffer);
         }
     }
     printf("%zu trains\n", trains);
@@ -73,7 +88,9 @@ int main(int argc, char **argv)
     struct lent lent = {NULL, 0, {0}, {0}};
     size_t length = 0;
     uint8_t *document = in == NULL ? NULL : whole(in, &length);
-    int done = document != NULL && list(document, length, &lent) && fflush(stdout) == 0 && !ferror(stdout);
+    /* one byte at least: a pointer that is lent is not null */
+    uint8_t *buffer = (uint8_t *)malloc(length + 1);
+    int done = document != NULL && buffer != NULL && list(document, length, buffer, &lent) && fflush(stdout) == 0 && !ferror(stdout);
 
     if (!done) {
         perror("trains");
@@ -82,6 +99,7 @@ int main(int argc, char **argv)
         fclose(in);
     }
     free(lent.stack);
+    free(buffer);
     free(document);
     return done ? 0 : 2;
 }

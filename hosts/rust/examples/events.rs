@@ -1,13 +1,13 @@
 //! Lists the events of a document, from a file or standard input: a line to each answer, up to the end of file. Before the file's name may stand `--check-open-names`:
-//! then a document that ends while names are open is refused (18) before its end of file; or `--attributes`: then the attributes of a tag stand behind it, a line to
-//! each.
+//! then a document that ends while names are open is refused (18) before its end of file; `--attributes`: then the attributes of a tag stand behind it, a line to
+//! each; or `--references`: then the bytes of its character stand behind a reference, in hexadecimal.
 
 mod input;
 
 use sporebasket::errors::{Error, Refused};
 use sporebasket::events::Event;
 use sporebasket::ext::{ErrorExt, EventExt, ReaderExt};
-use sporebasket::lent::{self, ATTRIBUTE_SLOTS};
+use sporebasket::lent::{self, ATTRIBUTE_SLOTS, UNESCAPE_SLOTS};
 use sporebasket::Reader;
 use std::io::{self, Write};
 use std::ops::Range;
@@ -19,6 +19,7 @@ enum Asked {
     Nothing,
     CheckOpenNames,
     Attributes,
+    References,
 }
 
 /// What is asked for, and the document that is named, or standard input.
@@ -27,6 +28,7 @@ fn asked() -> io::Result<(Asked, Vec<u8>)> {
     let asked = match words.peek().and_then(|word| word.to_str()) {
         Some("--check-open-names") => Asked::CheckOpenNames,
         Some("--attributes") => Asked::Attributes,
+        Some("--references") => Asked::References,
         _ => Asked::Nothing,
     };
     if asked != Asked::Nothing {
@@ -81,6 +83,21 @@ fn attributes(document: &[u8], content: Range<usize>, name: usize, out: &mut imp
     }
 }
 
+/// A reference has the bytes of its character; a refusal its number and the place of the reference.
+fn character(document: &[u8], piece: Range<usize>, content: Range<usize>, out: &mut impl Write) -> io::Result<()> {
+    let (mut buffer, mut answer) = ([0; 4], [0; UNESCAPE_SLOTS]);
+    match lent::reference(&document[content], &mut buffer, 0, &mut answer) {
+        0 => {
+            write!(out, "character")?;
+            for byte in &buffer[..answer[0]] {
+                write!(out, " {byte:02x}")?;
+            }
+            writeln!(out)
+        }
+        number => writeln!(out, "refused {number} {}", piece.start),
+    }
+}
+
 /// An event has its piece, its content and the length of its name; a refusal its number and its place.
 fn list(document: &[u8], asked: Asked, out: &mut impl Write) -> io::Result<()> {
     let mut reader = Reader::from_reader(document);
@@ -96,8 +113,12 @@ fn list(document: &[u8], asked: Asked, out: &mut impl Write) -> io::Result<()> {
                     "{said} {} {} {} {} {name}",
                     piece.start, piece.end, content.start, content.end
                 )?;
-                if asked == Asked::Attributes && matches!(event, Event::Start(_) | Event::Empty(_)) {
-                    attributes(document, content, name, out)?;
+                match event {
+                    Event::Start(_) | Event::Empty(_) if asked == Asked::Attributes => {
+                        attributes(document, content, name, out)?;
+                    }
+                    Event::GeneralRef(_) if asked == Asked::References => character(document, piece, content, out)?,
+                    _ => (),
                 }
                 if event == Event::Eof {
                     return Ok(());

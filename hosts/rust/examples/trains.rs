@@ -1,31 +1,45 @@
-//! Prints the numbers of the trains in a timetable, from a file or standard input: the value of `n` of each element `r` that has one, as it stands, a line to each;
-//! `refused`, a number and a place, for what is refused; and how many trains there are.
+//! Prints the numbers of the trains in a timetable, from a file or standard input: the value of `n` of each element `r` that has one, with its references replaced, a line to
+//! each; `refused`, a number and a place, for what is refused; and how many trains there are.
 
 mod input;
 
 use sporebasket::errors::{Error, Refused};
-use sporebasket::events::Event;
-use sporebasket::ext::{AttrErrorExt, ErrorExt, EventExt};
+use sporebasket::events::{BytesStart, Event};
+use sporebasket::ext::{AttrErrorExt, ErrorExt, EventExt, StrExt};
 use sporebasket::name::QName;
 use sporebasket::Reader;
 use std::io::{self, Write};
 use std::{env, process};
+
+/// The number of a train, if it has one, or the number of a refusal and its place in the document.
+fn number(tag: &BytesStart) -> Result<Option<String>, (u8, usize)> {
+    let content = tag.place().map_or(0, |place| place.content.start);
+    let found = tag.try_get_attribute("n");
+    let Some(found) = found.map_err(|error| (error.number(), content + error.position()))? else {
+        return Ok(None);
+    };
+    match found.value.unescaped() {
+        Ok(number) => Ok(Some(number.into_owned())),
+        Err(refused) => {
+            // the value is a part of the tag's own text
+            let value = found.value.as_ptr() as usize - tag.as_ptr() as usize;
+            Err((refused.number, content + value + refused.position))
+        }
+    }
+}
 
 fn list(document: &[u8], out: &mut impl Write) -> io::Result<()> {
     let mut reader = Reader::from_reader(document);
     let mut trains = 0;
     loop {
         match reader.read_event() {
-            Ok(Event::Start(tag) | Event::Empty(tag)) if tag.name() == QName("r") => match tag.try_get_attribute("n") {
+            Ok(Event::Start(tag) | Event::Empty(tag)) if tag.name() == QName("r") => match number(&tag) {
                 Ok(Some(number)) => {
-                    writeln!(out, "{}", number.value)?;
+                    writeln!(out, "{number}")?;
                     trains += 1;
                 }
                 Ok(None) => (),
-                Err(error) => {
-                    let content = tag.place().map_or(0, |place| place.content.start);
-                    writeln!(out, "refused {} {}", error.number(), content + error.position())?;
-                }
+                Err((number, place)) => writeln!(out, "refused {number} {place}")?,
             },
             Ok(Event::Eof) => break,
             Ok(_) => (),

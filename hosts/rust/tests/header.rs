@@ -52,6 +52,13 @@ impl Header {
         (number, answer)
     }
 
+    /// The answer to a content with references, in a buffer with room for two bytes.
+    fn unescape(&self, content: &[u8]) -> (usize, Vec<usize>) {
+        let mut answer = vec![0; self.get("UNESCAPE_SLOTS")];
+        let number = lent::unescape(content, &mut [0; 2], 0, &mut answer);
+        (number, answer)
+    }
+
     /// The answer to a column with room for two times and one name.
     fn column(&self, document: &[u8]) -> Vec<usize> {
         let mut stack = vec![0; self.get("NAME_SLOTS")];
@@ -72,6 +79,7 @@ fn limits_and_slots() {
     assert_eq!(header.get("ANSWER_SLOTS"), lent::ANSWER_SLOTS);
     assert_eq!(header.get("PART_SLOTS"), lent::PART_SLOTS);
     assert_eq!(header.get("ATTRIBUTE_SLOTS"), lent::ATTRIBUTE_SLOTS);
+    assert_eq!(header.get("UNESCAPE_SLOTS"), lent::UNESCAPE_SLOTS);
     assert_eq!(header.get("COLUMN_SLOTS"), lent::COLUMN_SLOTS);
     let defaults = header.get("CHECK_END_NAMES") + header.get("TRIM_MARKUP_NAMES_IN_CLOSING_TAGS");
     assert_eq!(lent::default_settings(), defaults);
@@ -252,6 +260,35 @@ fn slots_of_an_attribute() {
             assert_eq!(answer[header.get(&format!("ATTRIBUTE_{slot}"))], *value, "{slot}");
         }
     }
+}
+
+#[test]
+fn refusals_and_slots_of_references() {
+    let header = Header::read();
+    let rows: [(&str, &[u8], usize); 4] = [
+        ("BAD_REFERENCE", b"a&b;", 1),
+        ("BAD_REFERENCE", b"ab&", 2),
+        ("BAD_CHARACTER", b"&lt;&#0;", 4),
+        ("BUFFER_FULL", b"a&gt;b", 5),
+    ];
+    for (refusal, content, place) in rows {
+        let (number, answer) = header.unescape(content);
+        assert_eq!(number, header.get(refusal), "{refusal}");
+        let slots = ["WRITTEN", "PLACE"].map(|slot| answer[header.get(&format!("UNESCAPE_{slot}"))]);
+        assert_eq!(slots, [0, place], "{refusal}");
+    }
+    for (refusal, content) in [
+        ("BAD_REFERENCE", "b"),
+        ("BAD_CHARACTER", "#xFFFF"),
+        ("BUFFER_FULL", "#xFFFD"),
+    ] {
+        let number = lent::reference(content.as_bytes(), &mut [0; 2], 0, &mut [0; 2]);
+        assert_eq!(number, header.get(refusal), "{refusal}");
+    }
+    let (number, answer) = header.unescape(b"&#233;");
+    assert_eq!((number, answer[header.get("UNESCAPE_WRITTEN")]), (0, 2));
+    assert_eq!(lent::reference(b"lt", &mut [0], 0, &mut []), header.get("BAD_STATE"));
+    assert_eq!(lent::unescape(b"", &mut [], 0, &mut []), header.get("BAD_STATE"));
 }
 
 #[test]
