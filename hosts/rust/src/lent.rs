@@ -2,8 +2,8 @@
 //!
 //! Each but [`default_settings`] answers 0 or the number of a refusal, whatever the numbers are that it is lent. `include/sporebasket.h` says
 //! what the slots hold.
-//! [`Reader`](crate::Reader), [`Attributes`](crate::events::attributes::Attributes) and [`read_column`](crate::column::read_column) keep the memory and give the numbers
-//! their names.
+//! [`Reader`](crate::Reader), [`Attributes`](crate::events::attributes::Attributes), [`unescape`](crate::escape::unescape) and [`read_column`](crate::column::read_column) keep the memory
+//! and give the numbers their names.
 //!
 //! ```
 //! use sporebasket::lent;
