@@ -242,9 +242,12 @@ fn room_for_one_reference() {
     }
 }
 
+/// A content, the length of the buffer, the place, and what is written or refused.
+type Row = (&'static str, usize, usize, Result<&'static str, (usize, usize)>);
+
 #[test]
 fn whole_text_by_small_contents() {
-    let rows: [(&str, usize, usize, Result<&str, (usize, usize)>); 30] = [
+    let rows: [Row; 30] = [
         ("", 0, 0, Ok("")),
         ("", 3, 3, Ok("")),
         ("", 3, 4, Err((27, 0))),
