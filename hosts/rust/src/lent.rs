@@ -311,7 +311,7 @@ pub(crate) fn character(content: &str) -> Option<char> {
 /// 0: the answer's first slot is how many bytes were written, and the second is 0. Every other byte of the buffer stays. What is written is never longer than the content, and is UTF-8 where the content is.
 ///
 /// The first fault from the left is refused, and the buffer left as it was; the first slot is 0 and the second the fault's place in the content. 25 and 26, at the `&`: as [`reference()`] has them, and 25 where
-/// there is no `;`. 27, at the `&` or the byte: what is due does not fit; at the content's end: nothing is left to write, and `at` is past the buffer's end. 17, before all else: the answer has fewer than
+/// there is no `;`. 27, at the `&` or the byte: what is due does not fit, or the content is empty and `at` past the buffer's end. 17, before all else: the answer has fewer than
 /// [`UNESCAPE_SLOTS`] slots, and nothing is written.
 ///
 /// ```
