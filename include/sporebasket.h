@@ -240,7 +240,7 @@ size_t sporebasket_find_attribute(const uint8_t *document, size_t length, size_t
 /* Writes the character that a reference stands for into the buffer, from `at` on, as UTF-8. The content is what stands between `&` and `;`, as that of a GENERAL_REF is: one of `lt`, `gt`, `amp`,
  * `apos` and `quot`; `#` and decimal digits; or `#x` and hexadecimal digits of either case. There may be any number of digits, leading zeros among them.
  * 0: the bytes are written, 1 to 4 of them, and no other byte of the buffer changes. A refusal leaves the whole buffer as it was. The first of these that is so:
- * - 25: the content is none of these. So are `#`, `#x`, `#X41`, `#+1` and nothing at all.
+ * - 25: the content has none of these forms; `#`, `#x`, `#X41`, `#+1` and nothing at all have none.
  * - 26: the number is that of no character of XML, which are 9, A, D, 20 to D7FF, E000 to FFFD and 10000 to 10FFFF, in hexadecimal.
  * - 27: the bytes do not fit into the buffer from `at` on, or `at` is more than `buffer_length`.
  * 17, before all else: the answer has fewer than SPOREBASKET_UNESCAPE_SLOTS slots, and nothing is written. Slots past those are left alone. */
