@@ -1,7 +1,7 @@
 -- A choice by a range, from the facts that the code's own tests gave: what `search` answers a definition by ranges with. Assumes nothing.
 use Prim.Native.Nat.{ℕ, _+_, _≤_, _<_}
-use mathlib.Core.Path.{_≡_, refl}
-use mathlib.Core.Bool.{true}
+use mathlib.Core.Path.{_≡_, refl, sym, _∙_}
+use mathlib.Core.Bool.{Bool, true, false}
 use native.Mathlib.Omega.{arith}
 use native.Mathlib.Decide.{decLt}
 use lib.Dec.{eqb, leb}
@@ -40,3 +40,13 @@ module _ {A : Type 0} (r x y : A) (v : ℕ) where
       ]
 
 pub ruleset ranges = (choices, range-in, range-under, range-over, range-low, range-other)
+
+-- a choice by what a call says
+module _ {A : Type 0} (r x y : A) (t said : Bool) (q : said ≡ t) where
+  pub said-true : said ≡ true → r ≡ x → r ≡ pick t x y
+  said-true e = by-true r x y t (sym q ∙ e)
+
+  pub said-false : said ≡ false → r ≡ y → r ≡ pick t x y
+  said-false e = by-false r x y t (sym q ∙ e)
+
+pub ruleset saids = (choices, said-true, said-false)

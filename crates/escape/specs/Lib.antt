@@ -1,2 +1,4 @@
 pub mod Answers
 pub mod Scalar
+pub mod Reference
+pub mod Inside
