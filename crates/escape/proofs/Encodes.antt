@@ -14,7 +14,7 @@ use lib.Dec.{leb}
 use borrow.Author.Needs.{needs}
 use borrow.Author.Tests.{le-leb, lt-leb}
 use Rattle.ground.specs.Choose.{pick}
-use Rattle.ground.proofs.Choices.{by-true, by-false, pick-le, pick-nle, clash}
+use Rattle.ground.proofs.Choices.{by-true, by-false, pick-le, pick-nle, pick-cases, clash}
 use Rattle.ground.proofs.Slots.{slot-still, slots}
 use Rattle.escape.specs.Scalar.{isScalar, tail, octets, Encoded}
 use Rattle.escape.proofs.Ranges.{range-over}
@@ -28,6 +28,9 @@ scalar-most v e =
     ]
 
 -- ---- the four rows
+
+abbrev Some : List ℕ → Type 0
+Some bs = (1 ≤ length bs) × (length bs ≤ 4)
 
 module _ (v : ℕ) where
   pub octets-1 : v < 0x80 → octets v ≡ v ∷ []
@@ -58,6 +61,13 @@ module _ (v : ℕ) where
 
   pub width-4 : 0x10000 ≤ v → 4 ≡ length (octets v)
   width-4 h = rw (octets-4 h)
+
+  -- one to four
+  pub width-some : (1 ≤ length (octets v)) × (length (octets v) ≤ 4)
+  unfolding octets
+  width-some =
+      pick-cases Some (leb v 0x7F) _ _ (λ e. (omega arith, omega arith))
+      (λ e. pick-cases Some (leb v 0x7FF) _ _ (λ e. (omega arith, omega arith)) (λ e. pick-cases Some (leb v 0xFFFF) _ _ (λ e. (omega arith, omega arith)) (λ e. (omega arith, omega arith))))
 
 pub ruleset widths = (needs, width-1, width-2, width-3, width-4)
 

@@ -1,3 +1,8 @@
 pub mod Ranges
 pub mod Encodes
 pub mod Numbers
+pub mod Over
+pub mod Steps
+pub mod Copies
+pub mod Measures
+pub mod Writes

@@ -2,7 +2,7 @@
 use Prim.Native.Nat.{ℕ, _+_, _-_, _*_, _^_, _≤_, _<_}
 use mathlib.Core.Path.{_≡_, refl, sym, ap, _∙_}
 use mathlib.Core.Bool.{Bool, true, false}
-use mathlib.Core.List.{List, []}
+use mathlib.Core.List.{List, [], _∷_}
 use native.Mathlib.Omega.{arith}
 use native.Mathlib.Nat.{mul-le-mul, mul-le-mul-left}
 use native.Mathlib.Decide.{decLt}
@@ -12,13 +12,15 @@ use mir.Val.{Fits}
 use mir.Syntax.{w32}
 use borrow.Author.Needs.{needs}
 use Rattle.ground.specs.Choose.{pick}
-use Rattle.ground.proofs.Choices.{by-true, by-false, pick-le, pick-nle, pick-lt, pick-nlt, choices}
+use Rattle.ground.specs.Bytes.{quot, amp, apos, lt, gt}
+use Rattle.ground.specs.Equal.{begins, same}
+use Rattle.ground.proofs.Choices.{by-true, by-false, pick-le, pick-nle, pick-lt, pick-nlt, pick-cases, clash, choices}
 use Rattle.ground.proofs.Lists.{drop-next, drop-done}
 use Rattle.escape.specs.declared.reference.Reference.{Reference}
-use Rattle.escape.specs.Scalar.{isChar}
-use Rattle.escape.specs.Reference.{digit, charOf, numberFrom, numberOf}
+use Rattle.escape.specs.Scalar.{isChar, isScalar}
+use Rattle.escape.specs.Reference.{digit, charOf, numberFrom, numberOf, ltName, gtName, ampName, aposName, quotName, hash, lowerX, referenceOf}
 use Rattle.escape.specs.Inside.{past}
-use Rattle.escape.proofs.Ranges.{range-over}
+use Rattle.escape.proofs.Ranges.{range-in, range-under, range-over, range-low}
 
 -- ---- the character of a number
 
@@ -43,6 +45,30 @@ past-char v h =
     (range-over _ _ _ v 0x20 0xD7FF 0xD800 refl (omega arith)
     (range-over _ _ _ v 0xE000 0xFFFD 0xFFFE refl (omega arith)
     (range-over _ _ _ v 0x10000 0x10FFFF 0x110000 refl (omega arith) refl))))))
+
+-- nor is a surrogate
+gap-char : (v : ℕ) → 0xD800 ≤ v → v < 0xE000 → isChar v ≡ false
+gap-char v h k =
+    sym (range-over _ _ _ v 0x9 0x9 0xA refl (omega arith)
+    (range-over _ _ _ v 0xA 0xA 0xB refl (omega arith)
+    (range-over _ _ _ v 0xD 0xD 0xE refl (omega arith)
+    (range-over _ _ _ v 0x20 0xD7FF 0xD800 refl h
+    (range-under _ _ _ v 0xE000 0xFFFD 0xE000 refl k
+    (range-under _ _ _ v 0x10000 0x10FFFF 0xE000 refl k refl))))))
+
+-- so a character's number is a scalar value
+pub char-scalar : (v : ℕ) → isChar v ≡ true → isScalar v ≡ true
+char-scalar v e =
+    elim (decLt v 0xD800) [
+      | yes h ↦ sym (range-low _ _ _ v 0xD7FF 0xD800 refl h refl)
+      | no h ↦ elim (decLt v 0xE000) [
+        | yes k ↦ clash (isChar v) e (gap-char v (omega arith) k)
+        | no k ↦ elim (decLt v past) [
+          | yes l ↦ sym (range-over _ _ _ v 0 0xD7FF 0xD800 refl (omega arith) (range-in _ _ _ v 0xE000 0x10FFFF 0x110000 refl (omega arith) l refl))
+          | no l ↦ clash (isChar v) e (past-char v (omega arith))
+        ]
+      ]
+    ]
 
 pub past-none : (v : ℕ) → past ≤ v → charOf v ≡ Reference.NoCharacter
 unfolding charOf
@@ -114,3 +140,43 @@ module _ (s : List ℕ) (base from : ℕ) where
               record { real = r .real * base + d; same = same; low = λ x. absurd (omega arith); high = λ x. omega arith }
 
 pub ruleset numbers = (needs, reads-none, reads-start, reads-end, reads-stop, reads-turn)
+
+-- ---- what a reference names is an XML character
+
+-- a reference that names one, if it names any
+abbrev Proper : Reference → Type 0
+Proper r = (v : ℕ) → r ≡ Reference.Character v → isChar v ≡ true
+
+char-proper : (w : ℕ) → Proper (charOf w)
+unfolding charOf
+char-proper w =
+    pick-cases Proper (isChar w) (Reference.Character w) Reference.NoCharacter (λ t v e. let same : w ≡ v = cc in ap isChar (sym same) ∙ t)
+    (λ t v e. let z : _≡_ {A = ℕ} 0 1 = cc in absurd (omega arith))
+
+none-proper : Proper Reference.NotOfForm
+none-proper v e = let z : _≡_ {A = ℕ} 0 1 = cc in absurd (omega arith)
+
+known-proper : (w : ℕ) → isChar w ≡ true → Proper (Reference.Character w)
+known-proper w t v e = let same : w ≡ v = cc in ap isChar (sym same) ∙ t
+
+numbers-proper : (base w : ℕ) (bs : List ℕ) → Proper (numberFrom base w bs)
+unfolding numberFrom
+numbers-proper base w [] = char-proper w
+numbers-proper base w (b ∷ bs) =
+    pick-cases Proper (leb base (digit b)) Reference.NotOfForm (numberFrom base (w * base + digit b) bs) (λ _. none-proper) (λ _. numbers-proper base (w * base + digit b) bs)
+
+number-proper : (base : ℕ) (bs : List ℕ) → Proper (numberOf base bs)
+unfolding numberOf
+number-proper base [] = none-proper
+number-proper base (b ∷ bs) = numbers-proper base 0 (b ∷ bs)
+
+pub reference-proper : (content : List ℕ) → Proper (referenceOf content)
+unfolding referenceOf
+reference-proper c =
+    pick-cases Proper (same c ltName) _ _ (λ _. known-proper lt refl)
+    (λ _. pick-cases Proper (same c gtName) _ _ (λ _. known-proper gt refl)
+    (λ _. pick-cases Proper (same c ampName) _ _ (λ _. known-proper amp refl)
+    (λ _. pick-cases Proper (same c aposName) _ _ (λ _. known-proper apos refl)
+    (λ _. pick-cases Proper (same c quotName) _ _ (λ _. known-proper quot refl)
+    (λ _. pick-cases Proper (begins c (hash ∷ lowerX ∷ [])) _ _ (λ _. number-proper 16 (drop 2 c))
+    (λ _. pick-cases Proper (begins c (hash ∷ [])) _ _ (λ _. number-proper 10 (drop 1 c)) (λ _. none-proper)))))))

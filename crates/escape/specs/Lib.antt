@@ -1,4 +1,5 @@
 pub mod Answers
 pub mod Scalar
 pub mod Reference
+pub mod Text
 pub mod Inside
