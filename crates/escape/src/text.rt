@@ -6,12 +6,13 @@ use crate::reference::Reference;
 use crate::reference::read_reference;
 use crate::scalar::encode;
 use crate::scalar::width;
+use blocks::neither;
 use ground::part;
 ghost use mathlib.Core.Path.{_≡_};
 ghost use mathlib.Core.List.{_++_};
 ghost use Prim.Native.Nat.{_+_, _-_, _≤_, _<_};
 ghost use lib.ListN.{length, drop};
-ghost use Rattle.ground.specs.Part.{part as partOf};
+ghost use Rattle.ground.specs.Bytes.{amp};
 ghost use Rattle.white.specs.White.{until};
 ghost use Rattle.escape.specs.Text.{isByte, wholeText, writtenOf, leftOf};
 ghost use Rattle.escape.specs.Inside.{foundAt, IsWhole};
@@ -29,7 +30,7 @@ pub fn measure(content: &[u8], size: usize, at: usize) -> Written
     let mut i = 0;
     let mut p = at;
     loop {
-        let end = first(content, i, b'&');
+        let end = plain_end(content, i);
         let room = room_at(size, p);
         if room < end - i {
             return refused(Fault::NoRoom, i + room);
@@ -63,7 +64,7 @@ pub fn write(content: &[u8], galley: &mut [u8], at: usize)
     let mut i = 0;
     let mut p = at;
     loop {
-        let end = first(content, i, b'&');
+        let end = plain_end(content, i);
         copy(part(content, i, end), &mut galley[p..]);
         p += end - i;
         if content.len() <= end {
@@ -106,6 +107,17 @@ fn found_at(content: &[u8], from: usize) -> Found
             next: end + 1,
         },
     }
+}
+
+// Where the plain bytes from `from` on end: at the next `&`, or at the end. Blocks without one are passed at once.
+fn plain_end(content: &[u8], from: usize) -> usize
+    ensures { λ r. ⌜ r ≡ from + until (isByte amp) (drop from (now (content .entry))) ⌝ }
+{
+    let mut i = from;
+    while neither(content, i, 16, b'&', b'&') {
+        i += 16;
+    }
+    first(content, i, b'&')
 }
 
 // The first place from `from` on where a byte stands; the end where none does.

@@ -45,5 +45,5 @@ measure-spec =
     (λ c. search measures)
     (λ c. search measures)
     (λ c.
-    character-on _ _ _ _ _ _ (c .before .before .before .before .before .before .before .before .before .before .before .loop .inv) _ (c .before .before .before .before .before .before .before .before .before .before .first .ensures) _ (c .before .before .before .before .before .before .before .before .before .room-at .ensures) (c .before .before .before .before .before .before .before .before .if1 .left)
+    character-on _ _ _ _ _ _ (c .before .before .before .before .before .before .before .before .before .before .before .loop .inv) _ (c .before .before .before .before .before .before .before .before .before .before .plain-end .ensures) _ (c .before .before .before .before .before .before .before .before .before .room-at .ensures) (c .before .before .before .before .before .before .before .before .if1 .left)
     (c .before .before .before .before .before .before .before .if2 .left) _ (c .before .before .before .before .before .before .found-at .ensures) _ _ (c .before .before .before .before .value .given .1) _ (c .before .before .width .ensures) _ (c .before .room-at2 .ensures) (c .if4 .left) (search needs)))
