@@ -1,13 +1,16 @@
-// The cases of the functions below the reader, and of those for attributes: a line names one, which is called on its numbers and bytes.
+// The cases of the functions below the reader, and of those for attributes and references: a line names one, which is called on its numbers and bytes.
 use crate::says::say_item;
 use lines::line::bytes;
 use lines::line::number;
+use lines::line::put;
 use lines::line::say;
 use lines::line::say_number;
 use lines::line::say_numbers;
 use lines::line::word;
 use lines::words::number_of;
+use lines::words::say_bytes;
 use lines::words::say_nth;
+ghost use Rattle.io.specs.Counts.{Counts};
 
 // Writes the answer behind the line, if it names a function.
 pub fn answer(text: &[u8]) {
@@ -34,7 +37,7 @@ pub fn answer(text: &[u8]) {
 fn function(name: &[u8]) -> usize {
     number_of(
         name,
-        b"part;byte_at;is_whitespace;name_len;trim_end;trim_start;utf8;starts_with;same;element;pi;comment;cdata;text;reference;pair;attribute;find",
+        b"part;byte_at;is_whitespace;name_len;trim_end;trim_start;utf8;starts_with;same;element;pi;comment;cdata;text;reference;pair;attribute;find;unescape;resolve",
     )
 }
 
@@ -59,8 +62,50 @@ fn call(function: usize, s: &[u8], from: usize, to: usize, other: &[u8]) {
         15 => say_first(parser::hyphens::pair_end(s, from)),
         16 => say_item(b" = ", attributes::attribute(s, from, to)),
         17 => say_item(b" = ", attributes::find::find(s, from, other)),
+        18 => say_written(s, from, to, true),
+        19 => say_written(s, from, to, false),
         _ => {}
     }
+}
+
+// What comes of a text or of one reference in a buffer of so many bytes, each of which is `.` before.
+fn say_written(s: &[u8], size: usize, at: usize, whole: bool) {
+    let mut galley = [b'.'; 128];
+    let n = lent(size, &galley);
+    say_galley(s, &mut galley[..n], at, whole);
+}
+
+// How many bytes of the buffer are lent: as many as asked for, if it has them.
+fn lent(size: usize, galley: &[u8]) -> usize
+    ensures { λ r. ⌜ Counts r (now (galley .entry)) ⌝ }
+{
+    if size < galley.len() {
+        size
+    } else {
+        galley.len()
+    }
+}
+
+// How many bytes were written, or a refusal's number and place, and the whole buffer.
+fn say_galley(s: &[u8], galley: &mut [u8], at: usize, whole: bool) {
+    let written = written(s, galley, at, whole);
+    let values = written.values();
+    let number = values.number;
+    let numbers = [number, values.place];
+    if number == 0 {
+        say_number(b" = ", values.count);
+    } else {
+        say_numbers(b" = refused # #", &numbers);
+    }
+    put(b' ');
+    say_bytes(galley);
+}
+
+fn written(s: &[u8], galley: &mut [u8], at: usize, whole: bool) -> escape::answer::Written {
+    if whole {
+        return escape::unescape(s, galley, at);
+    }
+    escape::resolve(s, galley, at)
 }
 
 fn say_value(n: usize) {

@@ -1,5 +1,5 @@
 // Runs cases from standard input, a case to a line, and writes each line with what is answered. A line is one of
-//   NAME NUMBER NUMBER BYTES                                              a function below the reader or of attributes, whose answer stands behind the line
+//   NAME NUMBER NUMBER BYTES                                              a function below the reader, of attributes or of references, whose answer stands behind the line
 //   run SETTINGS SLOTS BYTES                                              every call up to end of file, one more, and the counts
 //   state SETTINGS PHASE POSITION DEPTH LENGTH SLOTS VALUES BYTES         one call, from the state given
 //   content FROM TO BYTES                                                 the bytes of a span
@@ -8,18 +8,27 @@
 // The answers to the last five stand below the line. NAME is one that `leaves.rt` has. A function that compares has its other bytes in place of the
 // second number. SETTINGS are letters of `settings.rt` or `-`. PHASE has a `!` in front where the mark is on, in the answers too. SLOTS is how many slots
 // the lent stack has, at most as many as `calls.rt` has (for `column` 16, as of ROOM), and VALUES, with commas or `-`, what its first ones hold. In BYTES `\` and two hexadecimal digits
-// stand for a byte. Any other line is written as it is. The cases together have fewer than 65,536 bytes.
+// stand for a byte. Any other line is written as it is. The cases together have fewer than 131,072 bytes.
 mod calls;
 mod leaves;
 mod says;
 
 use libc::STDIN_FILENO;
 use lines::line;
+ghost use mathlib.Core.Path.{_≡_};
+ghost use lib.ListN.{length};
+
+// Room for the cases.
+fn room() -> [u8; 131072]
+    ensures { λ r. ⌜ 131072 ≡ length r ⌝ }
+{
+    [0; 131072]
+}
 
 fn main() {
-    let mut buffer = io::large_buffer();
+    let mut buffer = room();
     let n = io::read_full(STDIN_FILENO, &mut buffer);
-    if 65536 <= n {
+    if 131072 <= n {
         line::say(b"too long\n");
         return;
     }
