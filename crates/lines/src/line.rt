@@ -87,7 +87,7 @@ pub fn values(s: &[u8], from: usize, out: &mut [usize]) {
 }
 
 // What a hexadecimal digit stands for, and 16 for any other byte: each small letter stands six places behind its large one.
-fn digit_of(b: u8) -> usize
+pub fn digit_of(b: u8) -> usize
     ensures { λ r. ⌜ r ≤ 16 ⌝ }
 {
     let at = find(b"0123456789ABCDEFabcdef", 0, b);

@@ -65,15 +65,20 @@ pub fn say_place(reader: Reader) {
     put_number(b' ', reader.depth.0);
 }
 
-// Writes bytes between bars: each that is not printable ASCII, and `\`, as `\` and two digits.
+// Writes bytes between bars.
 pub fn say_bytes(bytes: &[u8]) {
     put(b'|');
+    say_spelt(bytes);
+    put(b'|');
+}
+
+// Writes bytes: each that is not printable ASCII, and `\`, as `\` and two digits.
+pub fn say_spelt(bytes: &[u8]) {
     let mut i = 0;
     while i < bytes.len() {
         say_byte(bytes[i]);
         i += 1;
     }
-    put(b'|');
 }
 
 fn say_byte(b: u8) {

@@ -1,19 +1,23 @@
 // Replays what quick-xml 0.42.0 answered: reads cases from standard input, a case to a line, and writes each line with a line for every call up to end of
-// file, or up to the end of a tag's attributes, below it. The file `stdout` beside this program is what the crate said (`tools/record` writes both files),
+// file, or up to the end of a tag's attributes, or for the text that comes of references, below it. The file `stdout` beside this program is what the crate said (`tools/record` writes both files),
 // and the check compares the two. A line is
 //   SETTINGS SLOTS BYTES                          a document that both answer alike
 //   difference TAG SETTINGS SLOTS BYTES           one that they do not: TAG is a row of docs/DIFFERENCES.md, or some with `+` between them
 //   added SETTINGS SLOTS BYTES                    one that ends with names open, where these are checked: ours is 18 where the crate has Eof
 //   attributes TAG BYTES                          the content of a tag: TAG is `-` where both answer alike, else a row of docs/DIFFERENCES.md
+//   escape TAG BYTES                              a text, whose references are replaced
+//   reference TAG BYTES                           the content of one reference
 // SETTINGS, SLOTS and BYTES are written as for `cases`. Where a call differs, a line that begins with `crate` stands above our own and has what the crate
 // says, worked out from our answer as that row states. A line that begins with `#` is passed over. The cases have fewer than 327,680 bytes.
 mod calls;
 mod place;
+mod references;
 mod says;
 mod tags;
 
 use libc::STDIN_FILENO;
 use lines::line;
+use lines::words::number_of;
 ghost use mathlib.Core.Path.{_≡_};
 ghost use lib.ListN.{length};
 
@@ -50,18 +54,14 @@ fn answer(text: &[u8]) {
     }
     line::say(text);
     line::put(b'\n');
-    if ground::starts_with(text, 0, b"difference ") {
-        let tag = line::word(text, 0);
-        calls::case(text, line::word(text, tag));
-        return;
+    let end = line::word(text, 0);
+    let form = ground::part(text, 0, end);
+    match number_of(form, b"difference;added;attributes;escape;reference") {
+        0 => calls::case(text, line::word(text, end)),
+        1 => calls::case(text, end),
+        2 => tags::case(text, end),
+        3 => references::case(text, end, false),
+        4 => references::case(text, end, true),
+        _ => calls::case(text, 0),
     }
-    if ground::starts_with(text, 0, b"added ") {
-        calls::case(text, line::word(text, 0));
-        return;
-    }
-    if ground::starts_with(text, 0, b"attributes ") {
-        tags::case(text, line::word(text, 0));
-        return;
-    }
-    calls::case(text, 0);
 }

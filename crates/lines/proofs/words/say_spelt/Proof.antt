@@ -1,9 +1,9 @@
--- `say_bytes` is safe and ends: fewer bytes are left after each. Assumes nothing.
+-- `say_spelt` is safe and ends: fewer bytes are left after each. Assumes nothing.
 use Prim.Native.Nat.{_-_}
 use lib.ListN.{length}
 use borrow.Author.Needs.{needs}
-use Rattle.lines.proofs.words.say_bytes.Statement.{statement}
-use Rattle.lines.proofs.words.say_bytes.Tie as tie
+use Rattle.lines.proofs.words.say_spelt.Statement.{statement}
+use Rattle.lines.proofs.words.say_spelt.Tie as tie
 
 abbrev Inv-loop : tie.InvT-loop
 Inv-loop bytes i₀ i = Unit {0}
@@ -11,18 +11,16 @@ Inv-loop bytes i₀ i = Unit {0}
 abbrev μ-loop : tie.MeasureT-loop
 μ-loop bytes i₀ i = length bytes - i
 
-pub say-bytes-spec : {M : Type 1} → statement M
-say-bytes-spec =
+pub say-spelt-spec : {M : Type 1} → statement M
+say-spelt-spec =
     tie.close
     (tie.spec
     Inv-loop
     μ-loop
-    (λ c κs. search needs)
     (λ c. search needs)
     (λ c. search needs)
     (λ c κs. search needs)
     (λ c. search needs)
     (λ c. search needs)
     (λ c. search needs)
-    (λ c κs. search needs)
     (λ c. search needs))
