@@ -1,6 +1,7 @@
 // The cases of the functions below the reader, and of those for attributes and references: a line names one, which is called on its numbers and bytes.
 use crate::says::say_item;
 use lines::line::bytes;
+use lines::line::lent_bytes;
 use lines::line::number;
 use lines::line::put;
 use lines::line::say;
@@ -10,7 +11,6 @@ use lines::line::word;
 use lines::words::number_of;
 use lines::words::say_bytes;
 use lines::words::say_nth;
-ghost use Rattle.io.specs.Counts.{Counts};
 
 // Writes the answer behind the line, if it names a function.
 pub fn answer(text: &[u8]) {
@@ -71,19 +71,8 @@ fn call(function: usize, s: &[u8], from: usize, to: usize, other: &[u8]) {
 // What comes of a text or of one reference in a buffer of so many bytes, each of which is `.` before.
 fn say_written(s: &[u8], size: usize, at: usize, whole: bool) {
     let mut galley = [b'.'; 128];
-    let n = lent(size, &galley);
+    let n = lent_bytes(size, &galley);
     say_galley(s, &mut galley[..n], at, whole);
-}
-
-// How many bytes of the buffer are lent: as many as asked for, if it has them.
-fn lent(size: usize, galley: &[u8]) -> usize
-    ensures { λ r. ⌜ Counts r (now (galley .entry)) ⌝ }
-{
-    if size < galley.len() {
-        size
-    } else {
-        galley.len()
-    }
 }
 
 // How many bytes were written, or a refusal's number and place, and the whole buffer.

@@ -8,27 +8,19 @@
 // The answers to the last five stand below the line. NAME is one that `leaves.rt` has. A function that compares has its other bytes in place of the
 // second number. SETTINGS are letters of `settings.rt` or `-`. PHASE has a `!` in front where the mark is on, in the answers too. SLOTS is how many slots
 // the lent stack has, at most as many as `calls.rt` has (for `column` 16, as of ROOM), and VALUES, with commas or `-`, what its first ones hold. In BYTES `\` and two hexadecimal digits
-// stand for a byte. Any other line is written as it is. The cases together have fewer than 131,072 bytes.
+// stand for a byte. Any other line is written as it is. The cases together have fewer than 327,680 bytes.
 mod calls;
 mod leaves;
 mod says;
 
 use libc::STDIN_FILENO;
 use lines::line;
-ghost use mathlib.Core.Path.{_≡_};
-ghost use lib.ListN.{length};
-
-// Room for the cases.
-fn room() -> [u8; 131072]
-    ensures { λ r. ⌜ 131072 ≡ length r ⌝ }
-{
-    [0; 131072]
-}
+use lines::whole;
 
 fn main() {
-    let mut buffer = room();
+    let mut buffer = whole::room();
     let n = io::read_full(STDIN_FILENO, &mut buffer);
-    if 131072 <= n {
+    if whole::ROOM <= n {
         line::say(b"too long\n");
         return;
     }

@@ -154,6 +154,17 @@ pub fn lent(slots: usize, stack: &[usize]) -> usize
     }
 }
 
+// How many bytes are lent: as many as asked for, if the buffer has them.
+pub fn lent_bytes(size: usize, buffer: &[u8]) -> usize
+    ensures { λ r. ⌜ Counts r (now (buffer .entry)) ⌝ }
+{
+    if size < buffer.len() {
+        size
+    } else {
+        buffer.len()
+    }
+}
+
 // Writes text.
 pub fn say(text: &[u8]) {
     io::write_all(STDOUT_FILENO, text);

@@ -1,9 +1,21 @@
-// What the programs share that read one document from standard input.
+// What the programs share that read all of standard input: one document, or cases.
 use crate::line::say_numbers;
 use libc::STDIN_FILENO;
+ghost use mathlib.Core.Path.{_≡_};
+ghost use lib.ListN.{length};
 
-// The most bytes that they read.
+// The most bytes of a document.
 const LARGEST: usize = 65536;
+
+// Cases have fewer bytes.
+pub const ROOM: usize = 327680;
+
+// Room for cases.
+pub fn room() -> [u8; ROOM]
+    ensures { λ r. ⌜ 327680 ≡ length r ⌝ }
+{
+    [0; ROOM]
+}
 
 // Whether n bytes are as many as are read, and standard input has another.
 pub fn more(n: usize) -> bool {

@@ -17,21 +17,13 @@ mod tags;
 
 use libc::STDIN_FILENO;
 use lines::line;
+use lines::whole;
 use lines::words::number_of;
-ghost use mathlib.Core.Path.{_≡_};
-ghost use lib.ListN.{length};
-
-// Room for the cases.
-fn room() -> [u8; 327680]
-    ensures { λ r. ⌜ 327680 ≡ length r ⌝ }
-{
-    [0; 327680]
-}
 
 fn main() {
-    let mut buffer = room();
+    let mut buffer = whole::room();
     let n = io::read_full(STDIN_FILENO, &mut buffer);
-    if 327680 <= n {
+    if whole::ROOM <= n {
         line::say(b"too long\n");
         return;
     }
