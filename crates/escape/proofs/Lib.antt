@@ -6,3 +6,4 @@ pub mod Steps
 pub mod Copies
 pub mod Measures
 pub mod Writes
+pub mod Bits

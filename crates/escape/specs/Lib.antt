@@ -3,3 +3,4 @@ pub mod Scalar
 pub mod Reference
 pub mod Text
 pub mod Inside
+pub mod Words
