@@ -7,3 +7,4 @@ pub mod Copies
 pub mod Measures
 pub mod Writes
 pub mod Bits
+pub mod Grammar
