@@ -128,7 +128,7 @@ numbered ds =
     (by-false _ _ _ _ (not-name ds _ _ refl)
     (by-false _ _ _ _ (not-name ds _ _ refl) (by-false _ _ _ _ (not-name ds _ _ refl) (by-false _ _ _ _ (not-name ds _ _ refl) refl)))))
 
-hexadecimals : (ds : List ℕ) → referenceOf (hash ∷ lowerX ∷ ds) ≡ numberOf 16 ds
+pub hexadecimals : (ds : List ℕ) → referenceOf (hash ∷ lowerX ∷ ds) ≡ numberOf 16 ds
 unfolding begins
 hexadecimals ds = numbered (lowerX ∷ ds)
 
@@ -149,6 +149,11 @@ decimals : (d : ℕ) (ds : List ℕ) → (d ≡ lowerX → ⊥) → referenceOf 
 decimals d ds n =
     let e : begins (hash ∷ d ∷ ds) (hash ∷ lowerX ∷ []) ≡ false = begins-x d ds ∙ ap (λ (t : Bool). pick t true false) (must-fail (eqb d lowerX) (λ f. n (eqb-true d lowerX f))) in
     numbered (d ∷ ds) ∙ sym (by-false _ _ _ _ e refl) ∙ ap (λ (t : Bool). pick t (numberOf 10 (d ∷ ds)) Reference.NotOfForm) (begins-hash (d ∷ ds))
+
+-- leading zeros of a decimal number
+pub zeros-decimal : (n d : ℕ) (ds : List ℕ) → (d ≡ lowerX → ⊥) → referenceOf (hash ∷ (replicate n 0x30 ++ (d ∷ ds))) ≡ referenceOf (hash ∷ d ∷ ds)
+zeros-decimal zero d ds x = refl
+zeros-decimal (suc n) d ds x = decimals 0x30 (replicate n 0x30 ++ (d ∷ ds)) (λ e. omega arith) ∙ zeros 10 (omega arith) (suc n) d ds ∙ sym (decimals d ds x)
 
 -- what the grammar names is read so
 pub names-read : {c : List ℕ} {v : ℕ} → Names c v → referenceOf c ≡ charOf v

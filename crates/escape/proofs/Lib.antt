@@ -8,3 +8,5 @@ pub mod Measures
 pub mod Writes
 pub mod Bits
 pub mod Grammar
+pub mod Replacing
+pub mod Theorems
