@@ -1,12 +1,11 @@
 -- A scalar value and its bytes determine each other. Assumes nothing.
 use Prim.Native.Nat.{ℕ, _+_, _-_, _*_, _/_, _%_, _≤_, _<_}
-use mathlib.Core.Path.{_≡_, refl, sym, ap, _∙_, subst}
-use mathlib.Core.Bool.{true, false}
-use mathlib.Core.Logic.{_⊎_, inl, inr}
-use mathlib.Core.List.{List, [], _∷_, _++_}
+use mathlib.Core.Path.{_≡_, refl, sym, ap, _∙_}
+use mathlib.Core.Bool.{true}
+use mathlib.Core.Logic.{inl, inr}
+use mathlib.Core.List.{List, [], _∷_}
 use native.Mathlib.Omega.{arith}
 use native.Mathlib.Decide.{decLt}
-use lib.ListN.{length}
 use Rattle.ground.proofs.Choices.{clash}
 use Rattle.utf8.specs.Utf8.{Range, utf8Tail, rows, Matches, MatchesOne, Char}
 use Rattle.escape.specs.Scalar.{isScalar, tail, octets}

@@ -7,16 +7,15 @@ use mathlib.Core.List.{List, [], _∷_, _++_, append-assoc, append-nil}
 use native.Mathlib.Omega.{arith}
 use native.Mathlib.Nat.{zero-add, zero-mul}
 use native.Mathlib.Decide.{decLt}
-use lib.ListN.{length, drop, replicate, length-append}
-use lib.Dec.{leb, eqb}
-use borrow.Author.Tests.{eqb-true, le-leb}
+use lib.ListN.{length, drop, replicate}
+use lib.Dec.{eqb}
+use borrow.Author.Tests.{eqb-true}
 use Rattle.ground.specs.Choose.{pick}
 use Rattle.ground.specs.Bytes.{quot, amp, apos, lt, gt}
 use Rattle.ground.specs.Equal.{begins, same}
 use Rattle.ground.proofs.Choices.{by-false, pick-le, pick-nle, pick-same, must-fail, pick-cases}
 use Rattle.ground.proofs.Equal.{begins-is, same-is}
 use Rattle.escape.specs.declared.reference.Reference.{Reference}
-use Rattle.escape.specs.Scalar.{isChar}
 use Rattle.escape.specs.Reference.{ltName, gtName, ampName, aposName, quotName, hash, lowerX, digit, charOf, numberFrom, numberOf, referenceOf}
 use Rattle.escape.specs.Words.{Number, Names}
 use Rattle.escape.specs.Words.Number.{one, more}

@@ -10,3 +10,4 @@ pub mod Bits
 pub mod Grammar
 pub mod Replacing
 pub mod Theorems
+pub mod Worked

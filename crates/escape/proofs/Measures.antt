@@ -3,21 +3,19 @@ use Prim.Native.Nat.{ℕ, _+_, _-_, _^_, _≤_, _<_}
 use mathlib.Core.Path.{_≡_, refl, sym, ap, _∙_}
 use mathlib.Core.Bool.{true}
 use mathlib.Core.Logic.{_⊎_, inl, inr}
-use mathlib.Core.List.{List, [], _∷_, _++_}
+use mathlib.Core.List.{List, []}
 use native.Mathlib.Omega.{arith}
 use native.Mathlib.Nat.{zero-add}
 use native.Mathlib.Decide.{decLt}
-use lib.ListN.{length, getD, take, drop, length-take, length-append, length-drop}
+use lib.ListN.{length, getD, take, drop, length-append, length-drop}
 use lib.Seq.{getD-drop, length-take-le, drop-drop}
-use lib.Dec.{leb}
 use mir.Val.{Fits}
 use mir.Syntax.{w64}
 use borrow.Author.Needs.{needs}
 use borrow.Author.Tests.{eqb-true}
-use Rattle.ground.specs.Choose.{pick}
 use Rattle.ground.specs.Bytes.{amp, semicolon}
 use Rattle.ground.specs.Part.{part}
-use Rattle.ground.proofs.Choices.{pick-le, pick-nle, pick-cases}
+use Rattle.ground.proofs.Choices.{pick-le, pick-nle}
 use Rattle.ground.proofs.Lists.{drop-done}
 use Rattle.white.specs.White.{until}
 use Rattle.white.proofs.Runs.{until-inside}
@@ -29,7 +27,7 @@ use Rattle.escape.specs.declared.text.Found.{Found}
 use Rattle.escape.specs.Answers.{refused}
 use Rattle.escape.specs.Scalar.{octets}
 use Rattle.escape.specs.Reference.{referenceOf}
-use Rattle.escape.specs.Text.{Text, notWritten, fitting, isByte, contentLen, behind, onward, textFrom, wholeText, writtenOf}
+use Rattle.escape.specs.Text.{Text, fitting, isByte, behind, onward, textFrom, wholeText, writtenOf}
 use Rattle.escape.specs.Inside.{foundBy, closeAt, foundAt}
 use Rattle.escape.proofs.Encodes.{width-some}
 use Rattle.escape.proofs.Steps.{behind-nothing, fitting-in, fitting-out, text-end, run-fits, run-full, byFound, text-reference}
@@ -58,19 +56,24 @@ module _ (s : List ℕ) (from v next : ℕ) (f : Found) (e : f ≡ foundAt s fro
   found-close close Reference.NoCharacter e = let z : _≡_ {A = ℕ} 0 1 = cc in absurd (omega arith)
   found-close close (Reference.Character w) e = cc
 
-  pub found-next : (from < next) × (next ≤ length s)
+  -- its `;` stands there, and what its content names is the character
+  pub found-closed : (closeAt s from < length s) × (foundBy (closeAt s from + 1) (referenceOf (part s from (closeAt s from))) ≡ Found.Character v next)
   unfolding foundAt
-  found-next =
+  found-closed =
       elim (decLt (closeAt s from) (length s)) [
-        | yes l ↦
-            let n = found-close (closeAt s from) (referenceOf (part s from (closeAt s from))) (pick-nle _ _ _ _ _ l refl ∙ sym e ∙ g) in
-            (omega arith, omega arith)
+        | yes l ↦ (l, pick-nle _ _ _ _ _ l refl ∙ sym e ∙ g)
         | no l ↦
             let m : length s ≤ closeAt s from = omega arith in
             let x : Found.Refused Fault.NotOfForm ≡ Found.Character v next = pick-le _ _ _ _ _ m refl ∙ sym e ∙ g in
             let z : _≡_ {A = ℕ} 0 1 = cc in
             absurd (omega arith)
       ]
+
+  pub found-next : (from < next) × (next ≤ length s)
+  found-next =
+      let c = found-closed in
+      let n = found-close (closeAt s from) (referenceOf (part s from (closeAt s from))) (c .1) in
+      (omega arith, omega (arith, c .0))
 
 -- ---- a reference that is looked for
 

@@ -3,20 +3,19 @@ use Prim.Native.Nat.{ℕ, zero, suc, _+_, _-_, _≤_, _<_}
 use mathlib.Core.Path.{_≡_, refl, sym, ap, _∙_, subst}
 use mathlib.Core.Bool.{Bool, true, false}
 use mathlib.Core.Logic.{_⊎_, inl, inr}
-use mathlib.Core.List.{List, [], _∷_, _++_, append-assoc, append-nil}
+use mathlib.Core.List.{List, [], _∷_, _++_, append-assoc}
 use native.Mathlib.Omega.{arith}
-use native.Mathlib.Nat.{add-zero, zero-add}
+use native.Mathlib.Nat.{add-zero}
 use native.Mathlib.Numerals.{add-one}
 use native.Mathlib.Decide.{decLt}
-use lib.ListN.{length, take, drop, length-append, length-drop, take-append-drop}
-use lib.Seq.{take-all, take-at, drop-at, drop-append-add}
-use lib.Dec.{leb, eqb}
+use lib.ListN.{length, take, length-append}
+use lib.Seq.{take-at, drop-append-add}
+use lib.Dec.{eqb}
 use borrow.Author.Tests.{eq-eqb, ne-eqb, eqb-true}
 use Rattle.ground.specs.Choose.{pick}
 use Rattle.ground.specs.Bytes.{amp, semicolon}
-use Rattle.ground.proofs.Choices.{pick-le, pick-nle, pick-cases, clash}
+use Rattle.ground.proofs.Choices.{pick-le, pick-nle, clash}
 use Rattle.white.specs.White.{until}
-use Rattle.white.proofs.Runs.{until-within}
 use Rattle.escape.specs.declared.answer.Fault.{Fault}
 use Rattle.escape.specs.declared.reference.Reference.{Reference}
 use Rattle.escape.specs.Scalar.{octets}

@@ -6,21 +6,20 @@ use mathlib.Core.List.{List, [], _∷_, _++_, append-assoc}
 use native.Mathlib.Omega.{arith}
 use native.Mathlib.Nat.{add-zero}
 use native.Mathlib.Decide.{decLt}
-use lib.ListN.{length, getD, take, drop, length-drop, length-append}
+use lib.ListN.{length, getD, take, drop, length-drop}
 use lib.Seq.{drop-drop}
 use lib.Dec.{leb, eqb}
-use borrow.Author.Tests.{le-leb, lt-leb, eq-eqb, leb-true}
+use borrow.Author.Tests.{eq-eqb}
 use Rattle.ground.specs.Choose.{pick}
 use Rattle.ground.specs.Bytes.{amp}
 use Rattle.ground.specs.Part.{part}
-use Rattle.ground.proofs.Choices.{by-true, by-false, pick-le, pick-nle, pick-cases, clash}
-use Rattle.ground.proofs.Lists.{drop-next, drop-done, part-in}
+use Rattle.ground.proofs.Choices.{by-true, by-false, pick-le, pick-nle}
+use Rattle.ground.proofs.Lists.{drop-next, part-in}
 use Rattle.white.specs.White.{until}
 use Rattle.white.proofs.Runs.{until-within}
 use Rattle.escape.specs.declared.answer.Fault.{Fault}
 use Rattle.escape.specs.declared.reference.Reference.{Reference}
 use Rattle.escape.specs.declared.text.Found.{Found}
-use Rattle.escape.specs.Answers.{refusal}
 use Rattle.escape.specs.Scalar.{octets}
 use Rattle.escape.specs.Reference.{referenceOf}
 use Rattle.escape.specs.Text.{Text, notWritten, fitting, characterOf, isByte, contentLen, behind, onward, textFrom}

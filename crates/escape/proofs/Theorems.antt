@@ -1,7 +1,7 @@
 -- What a reader of document 02 expects of references. Assumes nothing.
-use Prim.Native.Nat.{ℕ, suc, _+_, _-_, _≤_, _<_}
+use Prim.Native.Nat.{ℕ, _+_, _-_, _≤_, _<_}
 use mathlib.Core.Path.{_≡_, refl, sym, ap, _∙_, subst}
-use mathlib.Core.Bool.{true, false}
+use mathlib.Core.Bool.{true}
 use mathlib.Core.Logic.{_⊎_, inl, inr, _↔_}
 use mathlib.Core.List.{List, [], _∷_, _++_, append-assoc, append-nil}
 use native.Mathlib.Omega.{arith}
@@ -10,7 +10,6 @@ use native.Mathlib.Decide.{decLt}
 use lib.ListN.{length, getD, take, drop, replicate, length-append, take-append-drop, List·getD-append}
 use lib.Seq.{length-take-le, take-at, drop-at, getD-append-add, drop-append-le, take-append-le, getD-drop, getD-take, getD-append-seam, append-snoc}
 use Rattle.ground.specs.Bytes.{amp, semicolon}
-use Rattle.ground.proofs.Choices.{by-true, by-false}
 use Rattle.utf8.specs.Utf8.{charLen, Char, Octets}
 use Rattle.utf8.specs.Utf8.Octets.{none, char}
 use Rattle.utf8.proofs.Chars.{char-before}
@@ -20,8 +19,8 @@ use Rattle.escape.specs.declared.answer.Written.{Written}
 use Rattle.escape.specs.declared.reference.Reference.{Reference}
 use Rattle.escape.specs.Scalar.{isChar, isScalar, octets}
 use Rattle.escape.specs.Reference.{hash, lowerX, charOf, referenceOf}
-use Rattle.escape.specs.Text.{Text, notWritten, behind, textFrom, wholeText, over, leftOf, Put}
-use Rattle.escape.specs.Words.{valueOf, Names, Without, Replaced, Placed, Fails, FirstRefusal}
+use Rattle.escape.specs.Text.{Text, notWritten, behind, textFrom, wholeText, over, Put}
+use Rattle.escape.specs.Words.{valueOf, Names, Without, Replaced, Fails, FirstRefusal}
 use Rattle.escape.specs.Words.Replaced.{nothing, plain, reference}
 use Rattle.escape.specs.Words.Fails.{unclosed, formless, nameless, character, byte, end}
 use Rattle.escape.proofs.Encodes.{width-some}
@@ -30,7 +29,7 @@ use Rattle.escape.proofs.Over.{over-length}
 use Rattle.escape.proofs.Steps.{text-end, fitting-in, whole-not}
 use Rattle.escape.proofs.Bits.{bytes-value, bytes-char, value-bytes}
 use Rattle.escape.proofs.Grammar.{zeros, zeros-decimal, hexadecimals, names-read, Named, reads-named, reference-long}
-use Rattle.escape.proofs.Replacing.{fails-refused, replaced-before, First, Seen, seen}
+use Rattle.escape.proofs.Replacing.{fails-refused, replaced-before, Seen, seen}
 
 -- ---- the UTF-8 writer
 

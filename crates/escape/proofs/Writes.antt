@@ -4,19 +4,17 @@ use mathlib.Core.Path.{_≡_, refl, sym, ap, _∙_}
 use mathlib.Core.Bool.{Bool, true, false}
 use mathlib.Core.List.{List, [], _∷_, _++_}
 use native.Mathlib.Omega.{arith}
-use native.Mathlib.Nat.{add-zero}
 use native.Mathlib.Decide.{decLt}
 use lib.ListN.{length, getD, take, drop, length-append, length-drop}
 use lib.Seq.{drop-drop, length-take-le}
-use lib.Dec.{leb, eqb}
+use lib.Dec.{eqb}
 use mir.Val.{Fits}
 use mir.Syntax.{w64}
 use borrow.Author.Needs.{needs}
 use borrow.Rule.Slice.PartMut.{midOf, putMid}
-use Rattle.ground.specs.Choose.{pick}
-use Rattle.ground.specs.Bytes.{amp, semicolon}
+use Rattle.ground.specs.Bytes.{amp}
 use Rattle.ground.specs.Part.{part}
-use Rattle.ground.proofs.Choices.{by-true, pick-le, pick-nle, pick-cases}
+use Rattle.ground.proofs.Choices.{by-true, pick-le, pick-nle}
 use Rattle.ground.proofs.Lists.{drop-done, part-in}
 use Rattle.white.specs.White.{until}
 use Rattle.escape.specs.declared.answer.Fault.{Fault}
@@ -33,7 +31,7 @@ use Rattle.escape.proofs.Encodes.{width-some}
 use Rattle.escape.proofs.Numbers.{char-scalar, reference-proper}
 use Rattle.escape.proofs.Over.{lent-length, back-over, back-same, over-nothing, over-length, over-more}
 use Rattle.escape.proofs.Steps.{fitting-in, fitting-out, text-end, text-amp, text-plain, run-fits, run-full, byFound, text-reference, whole-not}
-use Rattle.escape.proofs.Measures.{first-after, first-within, first-is, found-next}
+use Rattle.escape.proofs.Measures.{first-after, first-within, found-closed, found-next}
 
 -- ---- a text with no refusal, taken apart
 
@@ -126,16 +124,7 @@ module _ (s : List ℕ) (from v next : ℕ) (f : Found) (e : f ≡ foundAt s fro
   named-scalar k bs (Reference.Character u) q x = let same : u ≡ v = cc in char-scalar v (reference-proper bs v (sym q ∙ ap Reference.Character same))
 
   found-scalar : isScalar v ≡ true
-  unfolding foundAt
-  found-scalar =
-      elim (decLt (closeAt s from) (length s)) [
-        | yes l ↦ named-scalar (closeAt s from + 1) (part s from (closeAt s from)) (referenceOf (part s from (closeAt s from))) refl (pick-nle _ _ _ _ _ l refl ∙ sym e ∙ g)
-        | no l ↦
-            let m : length s ≤ closeAt s from = omega arith in
-            let x : Found.Refused Fault.NotOfForm ≡ Found.Character v next = pick-le _ _ _ _ _ m refl ∙ sym e ∙ g in
-            let z : _≡_ {A = ℕ} 0 1 = cc in
-            absurd (omega arith)
-      ]
+  found-scalar = named-scalar (closeAt s from + 1) (part s from (closeAt s from)) (referenceOf (part s from (closeAt s from))) refl (found-closed s from v next f e g .1)
 
 -- ---- the loop that writes
 

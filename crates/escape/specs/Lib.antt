@@ -4,3 +4,4 @@ pub mod Reference
 pub mod Text
 pub mod Inside
 pub mod Words
+pub mod Table

@@ -1,6 +1,5 @@
 -- `character` meets its contract. Assumes nothing.
 use Rattle.escape.proofs.Numbers.{chars}
-use borrow.Author.Needs.{needs}
 use Rattle.escape.proofs.reference.character.Statement.{statement}
 use Rattle.escape.proofs.reference.character.Tie as tie
 

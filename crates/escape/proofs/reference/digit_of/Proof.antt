@@ -1,7 +1,6 @@
 -- `digit_of` meets its contract. Assumes nothing.
 use Rattle.escape.specs.Reference.{digit}
 use Rattle.escape.proofs.Ranges.{ranges}
-use borrow.Author.Needs.{needs}
 use Rattle.escape.proofs.reference.digit_of.Statement.{statement}
 use Rattle.escape.proofs.reference.digit_of.Tie as tie
 

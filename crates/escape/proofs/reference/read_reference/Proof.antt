@@ -1,7 +1,6 @@
 -- `read_reference` meets its contract. Assumes nothing.
 use Rattle.escape.specs.Reference.{referenceOf}
 use Rattle.escape.proofs.Ranges.{saids}
-use borrow.Author.Needs.{needs}
 use Rattle.escape.proofs.reference.read_reference.Statement.{statement}
 use Rattle.escape.proofs.reference.read_reference.Tie as tie
 

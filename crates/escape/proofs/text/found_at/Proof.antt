@@ -1,6 +1,5 @@
 -- `found_at` meets its contract. Assumes nothing.
 use Rattle.escape.proofs.Measures.{founds}
-use borrow.Author.Needs.{needs}
 use Rattle.escape.proofs.text.found_at.Statement.{statement}
 use Rattle.escape.proofs.text.found_at.Tie as tie
 
