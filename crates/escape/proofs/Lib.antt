@@ -3,7 +3,7 @@ pub mod Encodes
 pub mod Numbers
 pub mod Over
 pub mod Steps
-pub mod Copies
+pub mod Firsts
 pub mod Measures
 pub mod Writes
 pub mod Bits

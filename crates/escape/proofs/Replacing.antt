@@ -3,7 +3,7 @@ use Prim.Native.Nat.{ℕ, zero, suc, _+_, _-_, _≤_, _<_}
 use mathlib.Core.Path.{_≡_, refl, sym, ap, _∙_, subst}
 use mathlib.Core.Bool.{Bool, true, false}
 use mathlib.Core.Logic.{_⊎_, inl, inr}
-use mathlib.Core.List.{List, [], _∷_, _++_, append-assoc}
+use mathlib.Core.List.{List, [], _∷_, _++_, append-assoc, append-nil}
 use native.Mathlib.Omega.{arith}
 use native.Mathlib.Nat.{add-zero}
 use native.Mathlib.Numerals.{add-one}
@@ -98,6 +98,25 @@ module _ (size p i : ℕ) where
   word-named : (c bs : List ℕ) (r : Reference) → Without semicolon c → referenceOf c ≡ r
       → textFrom size 0 p i (amp ∷ (c ++ (semicolon ∷ bs))) ≡ onward (characterOf size p i r) (λ n. textFrom size 0 (p + n) (i + (length c + 2)) bs)
   word-named c bs r w e = word-reference c bs w ∙ ap (λ (x : Reference). onward (characterOf size p i x) (λ n. textFrom size 0 (p + n) (i + (length c + 2)) bs)) e
+
+  -- a reference with nothing behind it
+  pub word-alone : (c : List ℕ) (r : Reference) → Without semicolon c → referenceOf c ≡ r → textFrom size 0 p i (amp ∷ (c ++ (semicolon ∷ []))) ≡ characterOf size p i r
+  word-alone c Reference.NotOfForm w e = word-named c [] Reference.NotOfForm w e
+  word-alone c Reference.NoCharacter w e = word-named c [] Reference.NoCharacter w e
+  word-alone c (Reference.Character v) w e =
+      word-named c [] (Reference.Character v) w e
+      ∙ elim (decLt size (p + length (octets v))) [
+        | yes h ↦ ap (λ (t : Text). onward t rest) (fitting-out size p (octets v) i h) ∙ sym (fitting-out size p (octets v) i h)
+        | no h ↦
+            let l : p + length (octets v) ≤ size = omega arith in
+            ap (λ (t : Text). onward t rest) (fitting-in size p (octets v) i l)
+            ∙ ap (behind (octets v)) (text-end size (p + length (octets v)) (i + (length c + 2)) ∙ fitting-in size (p + length (octets v)) [] (i + (length c + 2)) (omega arith))
+            ∙ ap Text.Whole (append-nil (octets v))
+            ∙ sym (fitting-in size p (octets v) i l)
+      ]
+    where
+      rest : ℕ → Text
+      rest n = textFrom size 0 (p + n) (i + (length c + 2)) []
 
   -- what refuses an item refuses the text from there on
   pub fails-refused : (fault : Fault) (bs : List ℕ) → Fails size p fault bs → textFrom size 0 p i bs ≡ notWritten fault i

@@ -170,8 +170,5 @@ module _ (size : ℕ) where
 
 -- ---- a text with no refusal
 
-whole-bytes : (bs cs : List ℕ) → Text.Whole bs ≡ Text.Whole cs → bs ≡ cs
-whole-bytes bs cs e = cc
-
 pub whole-not : {A : Type 0} (fault : Fault) (place : ℕ) (bs : List ℕ) → notWritten fault place ≡ Text.Whole bs → A
 whole-not fault place bs e = let z : _≡_ {A = ℕ} 0 1 = cc in absurd (omega arith)

@@ -19,7 +19,7 @@ use Rattle.escape.specs.declared.answer.Written.{Written}
 use Rattle.escape.specs.declared.reference.Reference.{Reference}
 use Rattle.escape.specs.Scalar.{isChar, isScalar, octets}
 use Rattle.escape.specs.Reference.{hash, lowerX, charOf, referenceOf}
-use Rattle.escape.specs.Text.{Text, notWritten, behind, textFrom, wholeText, over, Put}
+use Rattle.escape.specs.Text.{Text, notWritten, behind, textFrom, oneText, wholeText, over, Put}
 use Rattle.escape.specs.Words.{valueOf, Names, Without, Replaced, Fails, FirstRefusal}
 use Rattle.escape.specs.Words.Replaced.{nothing, plain, reference}
 use Rattle.escape.specs.Words.Fails.{unclosed, formless, nameless, character, byte, end}
@@ -29,7 +29,7 @@ use Rattle.escape.proofs.Over.{over-length}
 use Rattle.escape.proofs.Steps.{text-end, fitting-in, whole-not}
 use Rattle.escape.proofs.Bits.{bytes-value, bytes-char, value-bytes}
 use Rattle.escape.proofs.Grammar.{zeros, zeros-decimal, hexadecimals, names-read, Named, reads-named, reference-long}
-use Rattle.escape.proofs.Replacing.{fails-refused, replaced-before, Seen, seen}
+use Rattle.escape.proofs.Replacing.{word-alone, fails-refused, replaced-before, Seen, seen}
 
 -- ---- the UTF-8 writer
 
@@ -125,6 +125,10 @@ module _ (content : List ℕ) (size at : ℕ) where
           ∙ replaced-before size (f .replaced) (f .rest) at 0 (f .placed)
           ∙ ap (behind (f .out)) (fails-refused size (at + length (f .out)) (0 + length (f .before)) fault (f .rest) (f .fails))
           ∙ ap (notWritten fault) (zero-add (length (f .before)) ∙ sym (f .here))
+
+-- A reference is a text of one: with its `&` and its `;` it gives what its content gives.
+pub a-reference-is-a-text-of-one : (c : List ℕ) (size at : ℕ) → Without semicolon c → wholeText (amp ∷ (c ++ (semicolon ∷ []))) size at ≡ oneText c size at
+a-reference-is-a-text-of-one c size at w = word-alone size at 0 c (referenceOf c) w refl
 
 -- Text without `&` is copied.
 pub text-without-references-is-copied : (content : List ℕ) → Without amp content → Replaced content content

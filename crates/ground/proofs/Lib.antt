@@ -5,3 +5,4 @@ pub mod Equal
 pub mod Parts
 pub mod Eights
 pub mod Slots
+pub mod Copies

@@ -1,14 +1,14 @@
 -- `put` meets its contract, and ends: fewer numbers are left after each. The invariant: i numbers are written. Assumes nothing.
 use Prim.Native.Nat.{_≤_, _-_}
-use mathlib.Core.Path.{_≡_}
 use lib.ListN.{length}
-use Rattle.capi.proofs.Puts.{Putting, put-turns}
+use Rattle.ground.proofs.Copies.{Copying}
+use Rattle.capi.proofs.Puts.{put-turns}
 use Rattle.capi.proofs.slots.put.Statement.{statement}
 use Rattle.capi.proofs.slots.put.Tie as tie
 
 abbrev Inv-loop : tie.InvT-loop
 Inv-loop slots₀ numbers i₀ slots i =
-    (i ≤ length numbers) × (length numbers ≤ length slots) × (length slots ≡ length slots₀) × Putting slots₀ numbers slots i
+    (length numbers ≤ length slots₀) × Copying slots₀ numbers slots i
 
 abbrev μ-loop : tie.MeasureT-loop
 μ-loop slots₀ numbers i₀ slots i = length numbers - i

@@ -2,7 +2,7 @@
 use Prim.Native.Nat.{_-_}
 use mathlib.Core.Path.{_≡_}
 use lib.ListN.{length}
-use Rattle.escape.proofs.Copies.{Copying, copies}
+use Rattle.ground.proofs.Copies.{Copying, copies}
 use Rattle.escape.proofs.text.copy.Statement.{statement}
 use Rattle.escape.proofs.text.copy.Tie as tie
 

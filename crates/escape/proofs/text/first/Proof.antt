@@ -4,7 +4,7 @@ use mathlib.Core.Path.{_≡_}
 use lib.ListN.{length, drop}
 use Rattle.white.specs.White.{until}
 use Rattle.escape.specs.Text.{isByte}
-use Rattle.escape.proofs.Copies.{firsts}
+use Rattle.escape.proofs.Firsts.{firsts}
 use Rattle.escape.proofs.text.first.Statement.{statement}
 use Rattle.escape.proofs.text.first.Tie as tie
 

@@ -5,7 +5,7 @@ use lib.ListN.{length, drop}
 use Rattle.ground.specs.Bytes.{amp}
 use Rattle.white.specs.White.{until}
 use Rattle.escape.specs.Text.{isByte}
-use Rattle.escape.proofs.Copies.{blocks}
+use Rattle.escape.proofs.Firsts.{blocks}
 use Rattle.escape.proofs.text.plain_end.Statement.{statement}
 use Rattle.escape.proofs.text.plain_end.Tie as tie
 
