@@ -12,7 +12,7 @@ ghost use Rattle.capi_escape.specs.Told.{unescapeSlots, numbersOf, Told}
 // How many slots the answer takes.
 const UNESCAPE_SLOTS: usize = 2;
 
-// The number of the refusal of what is lent.
+// The number of the refusal where the answer has too few slots.
 const BAD_STATE: usize = 17;
 
 // The character of a reference, whose content is given, from the place `at` of the galley on. Writes how many bytes it has.

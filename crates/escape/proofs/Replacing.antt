@@ -24,7 +24,7 @@ use Rattle.escape.specs.Text.{Text, notWritten, fitting, characterOf, is
 use Rattle.escape.specs.Words.{Without, Replaced, Placed, Fails}
 use Rattle.escape.specs.Words.Without.{none, also}
 use Rattle.escape.specs.Words.Replaced.{nothing, plain, reference}
-use Rattle.escape.specs.Words.Fails.{unclosed, formless, nameless, character, byte, end}
+use Rattle.escape.specs.Words.Fails.{unclosed, formless, valueless, character, byte, end}
 use Rattle.escape.proofs.Encodes.{width-some}
 use Rattle.escape.proofs.Steps.{behind-nothing, behind-more, onward-same, fitting-in, fitting-out, text-skip, text-end, text-plain, text-amp}
 
@@ -122,7 +122,7 @@ module _ (size p i : ℕ) where
   pub fails-refused : (fault : Fault) (bs : List ℕ) → Fails size p fault bs → textFrom size 0 p i bs ≡ notWritten fault i
   fails-refused fault bs (unclosed {bs = ds} w) = word-unclosed ds w
   fails-refused fault bs (formless c ds w e) = word-named c ds Reference.NotOfForm w e
-  fails-refused fault bs (nameless c ds w e) = word-named c ds Reference.NoCharacter w e
+  fails-refused fault bs (valueless c ds w e) = word-named c ds Reference.NoCharacter w e
   fails-refused fault bs (character c ds v w e h) =
       word-named c ds (Reference.Character v) w e ∙ ap (λ (t : Text). onward t (λ n. textFrom size 0 (p + n) (i + (length c + 2)) ds)) (fitting-out size p (octets v) i h)
   fails-refused fault bs (byte {bs = ds} b n h) = word-plain b ds n ∙ ap (λ (t : Text). onward t (λ n. textFrom size 0 (p + n) (i + 1) ds)) (fitting-out size p (b ∷ []) i h)
@@ -241,7 +241,7 @@ module _ (size : ℕ) where
   sees-named : (n : ℕ) (c bs : List ℕ) → length (c ++ (semicolon ∷ bs)) < n → Sees n → (p i : ℕ) → Without semicolon c → (x : Reference) → referenceOf c ≡ x
       → Seen p i (amp ∷ (c ++ (semicolon ∷ bs))) (textFrom size 0 p i (amp ∷ (c ++ (semicolon ∷ bs))))
   sees-named n c bs h r p i w Reference.NotOfForm e = at-once p i Fault.NotOfForm (amp ∷ (c ++ (semicolon ∷ bs))) (formless c bs w e)
-  sees-named n c bs h r p i w Reference.NoCharacter e = at-once p i Fault.NoCharacter (amp ∷ (c ++ (semicolon ∷ bs))) (nameless c bs w e)
+  sees-named n c bs h r p i w Reference.NoCharacter e = at-once p i Fault.NoCharacter (amp ∷ (c ++ (semicolon ∷ bs))) (valueless c bs w e)
   sees-named n c bs h r p i w (Reference.Character v) e =
       elim (decLt size (p + length (octets v))) [
         | yes l ↦ at-once p i Fault.NoRoom (amp ∷ (c ++ (semicolon ∷ bs))) (character c bs v w e l)

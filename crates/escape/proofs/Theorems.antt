@@ -15,14 +15,15 @@ use Rattle.utf8.specs.Utf8.Octets.{none, char}
 use Rattle.utf8.proofs.Chars.{char-before}
 use Rattle.utf8.proofs.Places.{char-high, octets-join}
 use Rattle.escape.specs.declared.answer.Fault.{Fault}
+use Rattle.escape.specs.declared.answer.Refusal.{Refusal}
 use Rattle.escape.specs.declared.answer.Written.{Written}
 use Rattle.escape.specs.declared.reference.Reference.{Reference}
 use Rattle.escape.specs.Scalar.{isChar, isScalar, octets}
 use Rattle.escape.specs.Reference.{hash, lowerX, charOf, referenceOf}
-use Rattle.escape.specs.Text.{Text, notWritten, behind, textFrom, oneText, wholeText, over, Put}
-use Rattle.escape.specs.Words.{valueOf, Names, Without, Replaced, Fails, FirstRefusal}
+use Rattle.escape.specs.Text.{Text, notWritten, behind, textFrom, oneText, wholeText, writtenOf, over, leftOf, Put}
+use Rattle.escape.specs.Words.{valueOf, Names, Without, Replaced, Fails, FirstRefusal, Wrote}
 use Rattle.escape.specs.Words.Replaced.{nothing, plain, reference}
-use Rattle.escape.specs.Words.Fails.{unclosed, formless, nameless, character, byte, end}
+use Rattle.escape.specs.Words.Fails.{unclosed, formless, valueless, character, byte, end}
 use Rattle.escape.proofs.Encodes.{width-some}
 use Rattle.escape.proofs.Numbers.{char-scalar, reference-proper}
 use Rattle.escape.proofs.Over.{over-length}
@@ -39,6 +40,10 @@ what-is-written-is-one-character = bytes-char
 
 pub reading-it-back-gives-its-length : (v : ℕ) → isScalar v ≡ true → (more : List ℕ) → charLen (octets v ++ more) ≡ length (octets v)
 reading-it-back-gives-its-length v h more = char-before (octets v) more (bytes-char v h)
+
+-- It has one byte to four.
+pub a-character-has-one-byte-to-four : (v : ℕ) → (1 ≤ length (octets v)) × (length (octets v) ≤ 4)
+a-character-has-one-byte-to-four = width-some
 
 -- Value and bytes determine each other.
 pub the-bytes-have-the-value : (v : ℕ) → isScalar v ≡ true → valueOf (octets v) ≡ v
@@ -65,12 +70,12 @@ nothing-else-is-read c f = by (reads-named c)
 pub what-is-named-is-a-character : (c : List ℕ) (v : ℕ) → referenceOf c ≡ Reference.Character v → (isChar v ≡ true) × (isScalar v ≡ true)
 what-is-named-is-a-character c v e = let f = reference-proper c v e in (f, char-scalar v f)
 
--- Any number of leading zeros changes nothing, decimal and hexadecimal.
-pub leading-zeros-change-nothing : (n d : ℕ) (ds : List ℕ) → (d ≡ lowerX → ⊥)
-    → (referenceOf (hash ∷ (replicate n 0x30 ++ (d ∷ ds))) ≡ referenceOf (hash ∷ d ∷ ds))
-    × (referenceOf (hash ∷ lowerX ∷ (replicate n 0x30 ++ (d ∷ ds))) ≡ referenceOf (hash ∷ lowerX ∷ d ∷ ds))
-leading-zeros-change-nothing n d ds x =
-    (zeros-decimal n d ds x, hexadecimals (replicate n 0x30 ++ (d ∷ ds)) ∙ zeros 16 (omega arith) n d ds ∙ sym (hexadecimals (d ∷ ds)))
+-- Any number of leading zeros changes nothing. (In front of an `x` they would: `#0x41` is not `#x41`.)
+pub leading-zeros-change-nothing : (n d : ℕ) (ds : List ℕ) → (d ≡ lowerX → ⊥) → referenceOf (hash ∷ (replicate n 0x30 ++ (d ∷ ds))) ≡ referenceOf (hash ∷ d ∷ ds)
+leading-zeros-change-nothing = zeros-decimal
+
+pub leading-zeros-in-hexadecimal-change-nothing : (n d : ℕ) (ds : List ℕ) → referenceOf (hash ∷ lowerX ∷ (replicate n 0x30 ++ (d ∷ ds))) ≡ referenceOf (hash ∷ lowerX ∷ d ∷ ds)
+leading-zeros-in-hexadecimal-change-nothing n d ds = hexadecimals (replicate n 0x30 ++ (d ∷ ds)) ∙ zeros 16 (omega arith) n d ds ∙ sym (hexadecimals (d ∷ ds))
 
 -- ---- a whole text
 
@@ -130,10 +135,13 @@ module _ (content : List ℕ) (size at : ℕ) where
 pub a-reference-is-a-text-of-one : (c : List ℕ) (size at : ℕ) → Without semicolon c → wholeText (amp ∷ (c ++ (semicolon ∷ []))) size at ≡ oneText c size at
 a-reference-is-a-text-of-one c size at w = word-alone size at 0 c (referenceOf c) w refl
 
+copied : (content : List ℕ) → Without amp content → Replaced content content
+copied content Without.none = nothing
+copied content (Without.also {b = b} {bs = bs} n w) = plain b n (copied bs w)
+
 -- Text without `&` is copied.
-pub text-without-references-is-copied : (content : List ℕ) → Without amp content → Replaced content content
-text-without-references-is-copied content Without.none = nothing
-text-without-references-is-copied content (Without.also {b = b} {bs = bs} n w) = plain b n (text-without-references-is-copied bs w)
+pub text-without-references-is-copied : (content : List ℕ) (size at : ℕ) → Without amp content → at + length content ≤ size → wholeText content size at ≡ Text.Whole content
+text-without-references-is-copied content size at w h = what-is-written content size at content .1 (copied content w, h)
 
 -- What is written has at most as many bytes as the content.
 pub writing-takes-no-more-bytes : {content out : List ℕ} → Replaced content out → length out ≤ length content
@@ -151,7 +159,7 @@ enough-room-is-never-refused content size at place h e =
     needs : {p : ℕ} {fault : Fault} (rest : List ℕ) → fault ≡ Fault.NoRoom → Fails size p fault rest → size < p + length rest
     needs rest g (unclosed w) = let z : _≡_ {A = ℕ} 0 1 = cc in absurd (omega arith)
     needs rest g (formless c bs w x) = let z : _≡_ {A = ℕ} 0 1 = cc in absurd (omega arith)
-    needs rest g (nameless c bs w x) = let z : _≡_ {A = ℕ} 0 1 = cc in absurd (omega arith)
+    needs rest g (valueless c bs w x) = let z : _≡_ {A = ℕ} 0 1 = cc in absurd (omega arith)
     needs rest g (character c bs v w x l) = omega (arith, width-some v .1, reference-long c v x, length-append c (semicolon ∷ bs))
     needs rest g (byte b n l) = omega arith
     needs rest g (end l) = omega arith
@@ -224,6 +232,36 @@ module _ (buffer : List ℕ) (at : ℕ) (bs : List ℕ) (h : at + length bs ≤ 
       ∙ getD-append-add (take at buffer ++ bs) (drop (at + length bs) buffer) (k - (at + length bs)) 0
       ∙ getD-drop (at + length bs) buffer (k - (at + length bs)) 0
       ∙ ap (λ (j : ℕ). getD buffer j 0) f
+
+-- ---- a call
+
+-- A call that writes writes the text with its references replaced, and nothing else is changed;
+pub what-a-call-writes : (content buffer : List ℕ) (at n : ℕ) (buffer' : List ℕ) → Put (wholeText content (length buffer) at) buffer at (Written.Bytes n) buffer' → Wrote content buffer at n buffer'
+what-a-call-writes content buffer at n buffer' p = by (wholeText content (length buffer) at) (seen (length buffer) at 0 content) (p .told) (p .bytes)
+  where
+    by : (t : Text) → Seen (length buffer) at 0 content t → Written.Bytes n ≡ writtenOf t → buffer' ≡ leftOf buffer at t → Wrote content buffer at n buffer'
+    by t (Seen.refused fault place f) e g = let z : _≡_ {A = ℕ} 0 1 = cc in absurd (omega arith)
+    by t (Seen.whole out r h) e g =
+        let m : n ≡ length out = cc in
+        record {
+          out = out;
+          replaced = r;
+          count = sym m;
+          run = ap (λ (l : List ℕ). take n (drop at l)) g ∙ ap (λ (k : ℕ). take k (drop at (over buffer at out))) m ∙ the-run-is-written buffer at out h;
+          long = ap length g ∙ as-many-bytes-as-before buffer at out h;
+          outside = λ k o. ap (λ (l : List ℕ). getD l k 0) g ∙ every-byte-outside-the-run-stays buffer at out h k (subst (λ (j : ℕ). (k < at) ⊎ (at + j ≤ k)) m o);
+        }
+
+-- of well-formed content the bytes that it writes are well formed;
+pub what-a-call-writes-is-well-formed : (content buffer : List ℕ) (at n : ℕ) (buffer' : List ℕ) → Octets content → Put (wholeText content (length buffer) at) buffer at (Written.Bytes n) buffer' → Octets (take n (drop at buffer'))
+what-a-call-writes-is-well-formed content buffer at n buffer' o p =
+    let w = what-a-call-writes content buffer at n buffer' p in
+    subst Octets (sym (w .run)) (well-formed-content-gives-well-formed-text (w .replaced) o)
+
+-- and a call that refuses changes nothing.
+pub a-refusal-changes-nothing : (t : Text) (buffer : List ℕ) (at : ℕ) (x : Refusal) (buffer' : List ℕ) → Put t buffer at (Written.Refused x) buffer' → buffer' ≡ buffer
+a-refusal-changes-nothing (Text.Whole bs) buffer at x buffer' p = let e : Written.Refused x ≡ Written.Bytes (length bs) = p .told in let z : _≡_ {A = ℕ} 0 1 = cc in absurd (omega arith)
+a-refusal-changes-nothing (Text.Refused y) buffer at x buffer' p = p .bytes
 
 -- No second answer meets the promise.
 pub only-one-answer : (t : Text) (buffer : List ℕ) (at : ℕ) (r r′ : Written) (b b′ : List ℕ) → Put t buffer at r b → Put t buffer at r′ b′ → (r ≡ r′) × (b ≡ b′)

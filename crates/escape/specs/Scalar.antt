@@ -23,19 +23,23 @@ isScalar v = among ((0x0, 0xD7FF) ∷ (0xE000, 0x10FFFF) ∷ []) v
 
 -- ---- the bytes of a scalar value
 
--- 10xxxxxx, with the six bits of the value that stand so high
+-- 10xxxxxx, with the six bits of the value from that of weight `by` on
 abbrev pub tail : ℕ → ℕ → ℕ
 tail by v = 0x80 + v / by % 0x40
 
--- the rows of the RFC's table: 0xxxxxxx; 110xxxxx 10xxxxxx; 1110xxxx 10xxxxxx 10xxxxxx; 11110xxx 10xxxxxx 10xxxxxx 10xxxxxx
+-- the rows of the RFC's table
 unfoldable pub octets : ℕ → List ℕ
 octets v =
+    -- up to 7F: 0xxxxxxx
     pick (leb v 0x7F)
     (v ∷ [])
+    -- up to 7FF: 110xxxxx 10xxxxxx
     (pick (leb v 0x7FF)
     ((0xC0 + v / 0x40) ∷ tail 1 v ∷ [])
+    -- up to FFFF: 1110xxxx 10xxxxxx 10xxxxxx
     (pick (leb v 0xFFFF)
     ((0xE0 + v / 0x1000) ∷ tail 0x40 v ∷ tail 1 v ∷ [])
+    -- up to 10FFFF: 11110xxx 10xxxxxx 10xxxxxx 10xxxxxx
     ((0xF0 + v / 0x40000) ∷ tail 0x1000 v ∷ tail 0x40 v ∷ tail 1 v ∷ [])))
 
 -- THE PROMISE of the writer: how many bytes were written, and every byte of what was lent; none where the number is no scalar value or they do not fit

@@ -36,7 +36,7 @@ characterOf size p place Reference.NotOfForm = notWritten Fault.NotOfForm place
 characterOf size p place Reference.NoCharacter = notWritten Fault.NoCharacter place
 characterOf size p place (Reference.Character v) = fitting size p (octets v) place
 
--- ---- one reference
+-- ---- one reference: the place of its refusals is 0
 
 abbrev pub oneText : List ℕ → ℕ → ℕ → Text
 oneText content size at = characterOf size at 0 (referenceOf content)

@@ -1,15 +1,16 @@
 -- The same in words: what a reader of XML 1.0 and of RFC 3629 expects of the definitions.
-use Prim.Native.Nat.{ℕ, _+_, _-_, _*_, _<_}
+use Prim.Native.Nat.{ℕ, _+_, _-_, _*_, _≤_, _<_}
 use mathlib.Core.Path.{_≡_}
+use mathlib.Core.Logic.{_⊎_}
 use mathlib.Core.List.{List, [], _∷_, _++_}
-use lib.ListN.{length}
+use lib.ListN.{length, getD, take, drop}
 use Rattle.ground.specs.Bytes.{quot, amp, apos, lt, gt, semicolon}
 use Rattle.escape.specs.declared.answer.Fault.{Fault}
 use Rattle.escape.specs.declared.reference.Reference.{Reference}
 use Rattle.escape.specs.Scalar.{octets}
 use Rattle.escape.specs.Reference.{ltName, gtName, ampName, aposName, quotName, hash, lowerX, digit, referenceOf}
 
--- ---- the value of a character's bytes: the x of the RFC's rows, joined (RFC 3629, section 3)
+-- ---- the value of a character's bytes, four at most: the x of the RFC's rows, joined (RFC 3629, section 3)
 
 abbrev pub valueOf : List ℕ → ℕ
 valueOf [] = 0
@@ -49,7 +50,7 @@ pub data Replaced : List ℕ → List ℕ → Type 0 where
   reference : {bs out : List ℕ} (c : List ℕ) (v : ℕ) → Without semicolon c → referenceOf c ≡ Reference.Character v → Replaced bs out
       → Replaced (amp ∷ (c ++ (semicolon ∷ bs))) (octets v ++ out)
 
--- each byte has its place in a buffer of so many bytes, from a place on
+-- each byte has its place in a buffer of so many bytes, from a place on; where there are none nothing is asked, be the place past the end
 abbrev pub Placed : ℕ → ℕ → List ℕ → Type 0
 Placed size at out = (k : ℕ) → k < length out → at + k < size
 
@@ -57,7 +58,7 @@ Placed size at out = (k : ℕ) → k < length out → at + k < size
 pub data Fails (size p : ℕ) : Fault → List ℕ → Type 0 where
   unclosed : {bs : List ℕ} → Without semicolon bs → Fails size p Fault.NotOfForm (amp ∷ bs)
   formless : (c bs : List ℕ) → Without semicolon c → referenceOf c ≡ Reference.NotOfForm → Fails size p Fault.NotOfForm (amp ∷ (c ++ (semicolon ∷ bs)))
-  nameless : (c bs : List ℕ) → Without semicolon c → referenceOf c ≡ Reference.NoCharacter → Fails size p Fault.NoCharacter (amp ∷ (c ++ (semicolon ∷ bs)))
+  valueless : (c bs : List ℕ) → Without semicolon c → referenceOf c ≡ Reference.NoCharacter → Fails size p Fault.NoCharacter (amp ∷ (c ++ (semicolon ∷ bs)))
   character : (c bs : List ℕ) (v : ℕ) → Without semicolon c → referenceOf c ≡ Reference.Character v → size < p + length (octets v)
       → Fails size p Fault.NoRoom (amp ∷ (c ++ (semicolon ∷ bs)))
   byte : {bs : List ℕ} (b : ℕ) → (b ≡ amp → ⊥) → size < p + 1 → Fails size p Fault.NoRoom (b ∷ bs)
@@ -73,3 +74,12 @@ pub record FirstRefusal (content : List ℕ) (size at : ℕ) (fault : Fault) (pl
   pub replaced : Replaced before out
   pub placed : Placed size at out
   pub fails : Fails size (at + length out) fault rest
+
+-- what a call has written: the text with its references replaced, n bytes from a place on; the buffer is as long as before, and each byte outside the run is the one that stood there
+pub record Wrote (content buffer : List ℕ) (at n : ℕ) (buffer' : List ℕ) : Type 0 where
+  pub out : List ℕ
+  pub replaced : Replaced content out
+  pub count : length out ≡ n
+  pub run : take n (drop at buffer') ≡ out
+  pub long : length buffer' ≡ length buffer
+  pub outside : (k : ℕ) → (k < at) ⊎ (at + n ≤ k) → getD buffer' k 0 ≡ getD buffer k 0

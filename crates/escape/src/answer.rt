@@ -13,14 +13,14 @@ pub enum Fault {
 
 pub struct Refusal {
     pub fault: Fault,
-    // In the content.
+    // Counted in the content: the `&`, or the byte that does not fit. Of one reference it is 0.
     pub place: usize,
 }
 
 pub enum Written {
     // So many bytes, from the place that was given on.
     Bytes(usize),
-    // None.
+    // Nothing was written.
     Refused(Refusal),
 }
 

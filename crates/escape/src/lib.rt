@@ -27,6 +27,7 @@ pub fn resolve(content: &[u8], galley: &mut [u8], at: usize) -> Written
             if galley.len() < at {
                 return refused(Fault::NoRoom, 0);
             }
+            // 0 where they do not fit: what a reference names is a scalar value
             let n = encode(value, &mut galley[at..]);
             if n == 0 {
                 return refused(Fault::NoRoom, 0);

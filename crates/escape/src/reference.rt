@@ -18,7 +18,7 @@ pub enum Reference {
     NoCharacter,
 }
 
-// The first number that is no character's, and all from it on are none.
+// No number from here on is a character's.
 const PAST: u32 = 0x110000;
 
 // What a content, the bytes between `&` and `;`, names.

@@ -21,7 +21,7 @@ pub fn is_char(value: u32) -> bool
     }
 }
 
-// Whether it is a scalar value: all but the surrogates.
+// Whether it is a scalar value: up to 10FFFF, all but the surrogates.
 pub fn is_scalar(value: u32) -> bool
     ensures { λ r. ⌜ r ≡ isScalar value ⌝ }
 {
@@ -48,7 +48,7 @@ pub fn encode(value: u32, out: &mut [u8]) -> usize
     0
 }
 
-// How many bytes a scalar value takes.
+// How many bytes a scalar value takes: one to four, by the number alone.
 pub fn width(value: u32) -> usize
     ensures { λ r. ⌜ r ≡ length (octets value) ⌝ }
 {
@@ -60,7 +60,7 @@ pub fn width(value: u32) -> usize
     }
 }
 
-// Writes them.
+// Writes the bytes of a scalar value, which fit.
 fn put(value: u32, out: &mut [u8])
     requires { ⌜ (isScalar value ≡ true) × (length (octets value) ≤ length (now out)) ⌝ }
     ensures { λ _. ⌜ now (out .exit) ≡ octets value ++ drop (length (octets value)) (now (out .entry)) ⌝ }

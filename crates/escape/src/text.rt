@@ -23,7 +23,7 @@ pub enum Found {
     Refused(Fault),
 }
 
-// What comes of a text in a buffer of so many bytes, from a place on.
+// What writing a text comes to, in a buffer of so many bytes, from a place on. Nothing is written.
 pub fn measure(content: &[u8], size: usize, at: usize) -> Written
     ensures { λ r. ⌜ r ≡ writtenOf (wholeText (now (content .entry)) size at) ⌝ }
 {
@@ -71,6 +71,7 @@ pub fn write(content: &[u8], galley: &mut [u8], at: usize)
             return;
         }
         match found_at(content, end + 1) {
+            // there is none: the text was measured
             Found::Refused(_) => return,
             Found::Character { value, next } => {
                 p += encode(value, &mut galley[p..]);
