@@ -251,7 +251,7 @@ size_t sporebasket_reference(const uint8_t *content, size_t length, uint8_t *buf
  * whatever stands between. 0: WRITTEN bytes are written, and no other byte of the buffer changes. A refusal leaves the whole buffer as it was. It is the first from the left, and PLACE tells where it stands:
  * - 25 and 26: as sporebasket_reference has them, or an `&` has no `;` behind it (25). PLACE is the `&`.
  * - 27: what is due does not fit. PLACE is the `&` of a reference that is good, or the byte that does not fit. An empty content is 27, at 0, where `at` is more than `buffer_length`.
- * 17: as there. What is written is never longer than the content, so that a buffer with as many bytes from `at` on as the content has never gives 27. It is UTF-8 where the content is. The buffer does not
+ * 17: as there. What is written is never longer than the content, so that a buffer that has as many bytes from `at` on as the content never gives 27. It is UTF-8 where the content is. The buffer must not
  * overlap with the content: nothing is replaced in place. */
 size_t sporebasket_unescape(const uint8_t *content, size_t length, uint8_t *buffer, size_t buffer_length, size_t at, size_t *answer,
                             size_t answer_slots);

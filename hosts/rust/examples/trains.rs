@@ -7,25 +7,34 @@ use sporebasket::errors::{Error, Refused};
 use sporebasket::events::{BytesStart, Event};
 use sporebasket::ext::{AttrErrorExt, ErrorExt, EventExt, StrExt};
 use sporebasket::name::QName;
-use sporebasket::Reader;
+use sporebasket::{lent, Reader};
 use std::io::{self, Write};
+use std::ops::Range;
 use std::{env, process};
 
 /// The number of a train, if it has one, or the number of a refusal and its place in the document.
-fn number(tag: &BytesStart) -> Result<Option<String>, (u8, usize)> {
-    let content = tag.place().map_or(0, |place| place.content.start);
+fn number(document: &[u8], tag: &BytesStart) -> Result<Option<String>, (u8, usize)> {
+    let content = tag.place().map_or(0..0, |place| place.content);
     let found = tag.try_get_attribute("n");
-    let Some(found) = found.map_err(|error| (error.number(), content + error.position()))? else {
+    let Some(found) = found.map_err(|error| (error.number(), content.start + error.position()))? else {
         return Ok(None);
     };
-    match found.value.unescaped() {
-        Ok(number) => Ok(Some(number.into_owned())),
-        Err(refused) => {
-            // the value is a part of the tag's own text
-            let value = found.value.as_ptr() as usize - tag.as_ptr() as usize;
-            Err((refused.number, content + value + refused.position))
-        }
-    }
+    let number = found.value.unescaped().map(|number| Some(number.into_owned()));
+    number.map_err(|refused| (refused.number, value_start(document, content, tag) + refused.position))
+}
+
+/// Where the value of `n` begins in the document.
+fn value_start(document: &[u8], content: Range<usize>, tag: &BytesStart) -> usize {
+    let mut answer = [0; lent::ATTRIBUTE_SLOTS];
+    lent::find_attribute(
+        document,
+        content.start,
+        content.end,
+        tag.name().as_ref().len(),
+        b"n",
+        &mut answer,
+    );
+    answer[3]
 }
 
 fn list(document: &[u8], out: &mut impl Write) -> io::Result<()> {
@@ -33,7 +42,7 @@ fn list(document: &[u8], out: &mut impl Write) -> io::Result<()> {
     let mut trains = 0;
     loop {
         match reader.read_event() {
-            Ok(Event::Start(tag) | Event::Empty(tag)) if tag.name() == QName("r") => match number(&tag) {
+            Ok(Event::Start(tag) | Event::Empty(tag)) if tag.name() == QName("r") => match number(document, &tag) {
                 Ok(Some(number)) => {
                     writeln!(out, "{number}")?;
                     trains += 1;

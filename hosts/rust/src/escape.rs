@@ -1,6 +1,6 @@
-//! References to characters: text in which they are replaced, and text in which they stand for characters that it may not have.
+//! Replacing references in a text, and writing them for characters that a text may not hold.
 //!
-//! [`unescape`] is the archive's proved function over strings, and a reference by a number, `&#233;` or `&#xE9;`, is read by another one wherever it stands. A character that XML does not permit, as that of
+//! [`unescape`] is a proved function of the archive, over strings, and a reference by a number, `&#233;` or `&#xE9;`, is read by another one wherever it stands. A character that XML does not permit, as that of
 //! `&#1;`, is refused.
 //!
 //! ```
@@ -23,7 +23,7 @@ use std::ops::Range;
 pub enum ParseCharRefError {
     /// A sign before the number.
     UnexpectedSign,
-    /// Not a number, or one that is too large.
+    /// Not a number, or one of more than 32 bits.
     InvalidNumber(ParseIntError),
     /// The number of no character of Unicode.
     InvalidCodepoint(u32),
@@ -44,7 +44,7 @@ pub enum ParseCharRefError {
 pub enum EscapeError {
     /// An entity that is not known: where its name stands, and the name.
     UnrecognizedEntity(Range<usize>, String),
-    /// An `&` without its `;`.
+    /// An `&` without its `;`, or with another `&` before that.
     UnterminatedEntity(Range<usize>),
     /// A reference to a character by its number that cannot be read.
     InvalidCharRef(ParseCharRefError),
@@ -274,9 +274,11 @@ where
 
 /// The value of an attribute as XML wants it told: white space replaced by spaces, and references by what they stand for, in which both are done again.
 ///
-/// The bytes that the first function tells are looked at: an `&` is that of a reference, a tab becomes a space, and at any other the second function appends what is to stand for a line end, for which it is
-/// given a space, and tells where to go on. A reference goes from `&` to the next `;`. One by a number becomes its character, `&amp;` an `&`, and any other what the resolver gives for its name, with what
-/// is to be replaced in it replaced in the same way, down to this depth.
+/// - `is_normalization_char` tells which bytes are looked at: `&`, which begins a reference, a tab, which becomes a space, and those with which a line end begins.
+/// - `normalize_eol_step` appends what stands for a line end, for which it is given a space, and tells where to go on.
+/// - `resolve_entity` gives what stands for a name; in that, all this is done again, `depth` deep. A reference by a number becomes its character, and `&amp;` an `&`.
+///
+/// A reference goes from `&` to the next `;`.
 /// [`Attribute::normalized_value_with`](crate::events::attributes::Attribute::normalized_value_with) has the two functions of XML 1.0.
 ///
 /// ```

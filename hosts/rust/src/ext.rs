@@ -371,7 +371,7 @@ impl StrExt for str {
 #[derive(Clone, Copy, Debug, PartialEq, Eq, Hash)]
 #[non_exhaustive]
 pub struct BadReference {
-    /// The number of the refusal. 25: neither one of the five names nor a number of digits, or no `;` behind the `&`. 26: the number of no character of XML.
+    /// The number of the refusal. 25: neither one of the five names nor `#` and digits, or no `;` behind the `&`. 26: the number of no character of XML.
     pub number: u8,
     /// The position of the `&`.
     pub position: usize,

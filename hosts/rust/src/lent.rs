@@ -345,7 +345,7 @@ pub fn unescape(content: &[u8], buffer: &mut [u8], at: usize, answer: &mut [usiz
 
 /// [`unescape`] of a string to one that is as long at most, or the number of the refusal and its place.
 ///
-/// What is written is UTF-8, since the content is: that is a theorem (docs/PROMISES.md). So it is not checked once more, but with the feature `checked`.
+/// What is written is UTF-8, since the content is: that is the theorem `what-a-call-writes-is-well-formed` (docs/PROMISES.md). So it is not checked once more, but with the feature `checked`.
 pub(crate) fn unescaped(content: &str) -> Result<String, (usize, usize)> {
     let (mut buffer, mut answer) = (vec![0; content.len()], [0; UNESCAPE_SLOTS]);
     match unescape(content.as_bytes(), &mut buffer, 0, &mut answer) {
@@ -353,7 +353,7 @@ pub(crate) fn unescaped(content: &str) -> Result<String, (usize, usize)> {
         number => return Err((number, answer[1])),
     }
     if cfg!(feature = "checked") {
-        return String::from_utf8(buffer).map_err(|_| (BAD_STATE, 0));
+        return Ok(String::from_utf8(buffer).expect("what a string gives is UTF-8"));
     }
     // SAFETY: these are the bytes that the call above wrote for a content that is UTF-8, and those are UTF-8.
     Ok(unsafe { String::from_utf8_unchecked(buffer) })
