@@ -5,6 +5,7 @@
 mod attributes;
 mod check;
 mod clock;
+mod escape;
 mod grid;
 mod growth;
 mod inputs;
@@ -24,7 +25,7 @@ use std::process::ExitCode;
 use std::{env, fs};
 
 const USAGE: &str = "\
-usage: speed [--quick | --rounds N] [--trim] [--beside NAME=PATH] [--also NAME=PATH].. | (--growth | --large) [--also NAME=PATH].. | --attributes | --describe | --write FOLDER";
+usage: speed [--quick | --rounds N] [--trim] [--beside NAME=PATH] [--also NAME=PATH].. | (--growth | --large) [--also NAME=PATH].. | --attributes | --escape | --describe | --write FOLDER";
 
 /// How many rounds there are: enough for the times to settle, and for a look.
 const ROUNDS: usize = 1000;
@@ -35,6 +36,7 @@ enum Wish {
     Growth { also: Vec<Build> },
     Large { also: Vec<Build> },
     Attributes,
+    Escape,
     Describe,
     Write(PathBuf),
 }
@@ -62,6 +64,7 @@ fn wish() -> Option<Wish> {
             "--beside" if beside.is_none() => beside = Some(build(&arguments.next()?)?),
             "--also" => also.push(build(&arguments.next()?)?),
             "--attributes" => return Some(Wish::Attributes),
+            "--escape" => return Some(Wish::Escape),
             "--describe" => return Some(Wish::Describe),
             "--write" => return Some(Wish::Write(arguments.next()?.into())),
             _ => return None,
@@ -86,6 +89,10 @@ fn main() -> ExitCode {
         Wish::Attributes => {
             machine::print();
             attributes::run()
+        }
+        Wish::Escape => {
+            machine::print();
+            escape::run()
         }
         Wish::Describe => {
             inputs::describe();

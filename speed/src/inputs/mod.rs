@@ -3,13 +3,13 @@
 mod cdata;
 mod comments;
 mod deep;
-mod draw;
+pub mod draw;
 mod longtext;
 mod netex;
 mod timetable;
 mod utf8;
 mod white;
-mod words;
+pub mod words;
 
 pub struct Input {
     pub name: &'static str,
