@@ -15,7 +15,8 @@ use crate::run::{self, Tells};
 use bench::Bench;
 use std::path::PathBuf;
 
-pub use listed::TAGS;
+pub use account::number;
+pub use listed::{is_of_the_crate, TAGS};
 pub use record::record;
 
 /// The slots of an answer.

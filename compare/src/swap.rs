@@ -4,6 +4,7 @@
 mod bench;
 mod facts;
 mod lines;
+mod references;
 mod show;
 mod summary;
 

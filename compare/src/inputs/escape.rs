@@ -8,6 +8,8 @@ use super::*;
 
 /// A content takes no stack.
 const NONE: usize = 0;
+/// A document with one does.
+const WITHIN: usize = 8;
 
 pub fn families(amount: Amount, seed: u64) -> Vec<Family> {
     let mut families: Vec<Family> = alphabets().into_iter().map(|alphabet| family(alphabet, amount)).collect();
@@ -38,6 +40,27 @@ impl Sink for Texts<'_> {
             }
         }
         ON
+    }
+}
+
+/// The quick contents in documents: as a value, and as the text behind it.
+pub fn in_documents(seed: u64) -> Vec<Family> {
+    let within = |family: Family| {
+        Family::new(family.name, family.jobs, move |job, sink| (family.run)(job, &mut Within { sink, document: Vec::new() }))
+    };
+    families(Amount::Quick, seed).into_iter().map(within).collect()
+}
+
+struct Within<'s> {
+    sink: &'s mut dyn Sink,
+    document: Vec<u8>,
+}
+
+impl Sink for Within<'_> {
+    fn case(&mut self, content: &[u8], settings: u16, _: usize) -> Flow {
+        self.document.clear();
+        [b"<r v='", content, b"'>", content, b"</r>"].iter().for_each(|part| self.document.extend(*part));
+        self.sink.case(&self.document, settings, WITHIN)
     }
 }
 

@@ -90,6 +90,7 @@ pub fn columns(amount: Amount, seed: u64) -> Vec<Family> {
 pub fn swap(amount: Amount, seed: u64) -> Vec<Family> {
     let shared = |families: Vec<Family>, quick, full| families.into_iter().map(move |family| thinned(family, amount.of(quick, full)));
     let mut families: Vec<Family> = shared(random::families(amount, seed), 37, 127).collect();
+    families.extend(shared(escape::in_documents(seed), 101, 7));
     families.extend(exhaustive::short());
     families.extend(shared(vec![exhaustive::prefixed(amount)], 53, 61));
     families.extend(shared(exhaustive::families(Amount::Quick), 71, 5));

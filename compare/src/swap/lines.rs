@@ -2,12 +2,13 @@
 //! ours is what is listed.
 
 use super::facts::Facts;
+use super::references;
 use super::summary::{Listed, Tally};
 use crate::check::is_white;
 use std::str::Lines;
 
 /// The sorts of lines, for what differs: those of compare/swap/program, and an end that comes too early.
-const SORTS: &str = "=@#!&><";
+const SORTS: &str = "=@#!&><%";
 /// An error that is ours alone.
 const DOCTYPE: &str = "! Refused(DocType)";
 
@@ -144,6 +145,7 @@ impl<'a> Walk<'a> {
             Some('@') => self.position(ours, theirs).unwrap_or(false),
             Some('#') => self.span(ours, theirs).unwrap_or(false),
             Some('&') => self.dangles(ours, theirs),
+            Some('%') => self.reads(ours, theirs),
             _ if ours != theirs => false,
             Some('!') => {
                 self.failed = Some(Failed::of(ours));
@@ -227,6 +229,14 @@ impl<'a> Walk<'a> {
             self.tally.listed(Listed::Dangling);
         }
         ours == format!("{piece:?}") && theirs == format!("{trimmed:?}")
+    }
+
+    /// A text with references by a number. Where ours refuses one that the crate takes both have to be what is listed.
+    fn reads(&mut self, ours: &str, theirs: &str) -> bool {
+        let Some(text) = references::Text::of(&theirs[2..]) else { return false };
+        let Some(due) = text.due() else { return ours == theirs };
+        self.tally.listed(Listed::Character);
+        ours[2..] == due.ours && theirs[2..] == due.theirs
     }
 
     /// Ours refuses a document type: where it stands there has to be one. What comes after it is compared no more.

@@ -12,11 +12,18 @@ pub enum Listed {
     Hyphens,
     Encoding,
     Doctype,
+    Character,
 }
 
 /// What they are called, with what is counted.
-const LISTED: [&str; 5] =
-    ["positions behind a byte order mark", "dangling-trim", "hyphen-place", "encoding-place", "readings left at a DOCTYPE"];
+const LISTED: [&str; 6] = [
+    "positions behind a byte order mark",
+    "dangling-trim",
+    "hyphen-place",
+    "encoding-place",
+    "readings left at a DOCTYPE",
+    "reference-character",
+];
 
 #[derive(Clone)]
 pub struct Tally {

@@ -1,6 +1,6 @@
 //! The attributes of a tag.
 
-use super::{row, Page};
+use super::{references, row, Page};
 use quick_xml::events::attributes::{AttrError, Attribute, Attributes};
 use quick_xml::events::BytesStart;
 use quick_xml::name::QName;
@@ -11,7 +11,7 @@ const WHITE: [char; 4] = [' ', '\t', '\n', '\r'];
 /// Those of a tag, one after the other and each by its name, up to the first error. What comes from the first on that is listed as a difference is not written.
 pub fn write(e: &BytesStart, page: &mut Page) {
     let most = alike(e.attributes_raw());
-    let error = list(e.attributes(), most, |attribute| row!(page, '=', "{}", told(&attribute)));
+    let error = list(e.attributes(), most, |attribute| told(&attribute, page));
     row!(page, '=', "{error:?}");
     if let Some(Err(error)) = &error {
         row!(page, '=', "{error}, {error:#?}");
@@ -27,7 +27,7 @@ pub fn write(e: &BytesStart, page: &mut Page) {
 
 /// Those of an instruction.
 pub fn write_all(attributes: Attributes, behind: &str, page: &mut Page) {
-    let error = list(attributes, alike(behind), |attribute| row!(page, '=', "{}", told(&attribute)));
+    let error = list(attributes, alike(behind), |attribute| told(&attribute, page));
     row!(page, '=', "{error:?}");
 }
 
@@ -43,9 +43,10 @@ fn list<'a>(mut attributes: Attributes<'a>, most: usize, mut each: impl FnMut(At
     None
 }
 
-fn told(attribute: &Attribute) -> String {
+fn told(attribute: &Attribute, page: &mut Page) {
     let borrowed = matches!(attribute.value, Cow::Borrowed(_));
-    format!("{attribute:?}, {borrowed}, {:?}, {:?}", attribute.key.local_name(), attribute.as_bool())
+    row!(page, '=', "{attribute:?}, {borrowed}, {:?}, {:?}", attribute.key.local_name(), attribute.as_bool());
+    references::value(attribute, page);
 }
 
 /// How many attributes stand before the first place that is listed as a difference: no white space behind a value, a name that begins with `=` or has a quote, `<` in a value, a

@@ -1,6 +1,6 @@
 //! All that an event tells, and what can be made of it.
 
-use super::{attributes, row, Page};
+use super::{attributes, references, row, Page};
 use quick_xml::events::{BytesCData, BytesDecl, BytesEnd, BytesPI, BytesRef, BytesStart, BytesText, Event};
 use quick_xml::name::{LocalName, Prefix, QName};
 use std::borrow::Cow;
@@ -120,6 +120,8 @@ fn text(e: &BytesText, page: &mut Page) {
     row!(page, '=', "{:?}, {:?}, {}", e.clone().into_owned(), e.borrow(), borrowed(e.borrow().into_inner()));
     let escaped = BytesText::new(content);
     row!(page, '=', "{escaped:?}, alike {} {}", escaped == *e, BytesText::from_escaped(content.to_string()) == *e);
+    references::text(content, page);
+    references::escaped(content, page);
     trimmed(e.clone(), page);
     trimmed(e.clone().into_owned(), page);
 }
@@ -143,6 +145,7 @@ fn reference(e: &BytesRef, page: &mut Page) {
     row!(page, '=', "{e:?}, {content}, {:?}", e.clone().into_inner());
     row!(page, '=', "{:?}, {:?}, {}", e.clone().into_owned(), e.borrow(), borrowed(e.clone().into_inner()));
     row!(page, '=', "{:?}, alike {} {}", BytesRef::new(content.to_string()), BytesRef::new(content) == *e, BytesRef::new("amp") == *e);
+    references::reference(e, page);
 }
 
 fn declaration(e: &BytesDecl, page: &mut Page) {

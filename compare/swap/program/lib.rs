@@ -10,12 +10,14 @@
 //! | `#` | a span |
 //! | `!` | an error |
 //! | `&` | the text of a dangling `&`, where texts are trimmed at their end |
+//! | `%` | a text with a number sign, by the way in which its references are read, and what it gives |
 
 #![forbid(unsafe_code)]
 
 mod attributes;
 mod events;
 mod fixed;
+pub mod references;
 
 pub use fixed::write_fixed;
 
@@ -40,13 +42,13 @@ const FULL: usize = 64;
 pub struct Page<'o>(&'o mut String);
 
 impl Page<'_> {
-    /// A line. What would end it is written as two characters, and of a long one, but for a dangling `&`, only some.
+    /// A line. What would end it is written as two characters, and of a long one, but for a dangling `&` and a text with numbers, only some.
     fn line(&mut self, key: char, what: fmt::Arguments) {
         self.0.push(key);
         self.0.push(' ');
         let from = self.0.len();
         self.0.write_fmt(what).expect("a string takes all");
-        if self.0.len() - from > LONG && key != '&' {
+        if self.0.len() - from > LONG && !matches!(key, '&' | '%') {
             let brief = brief(&self.0[from..]);
             self.0.truncate(from);
             self.0.push_str(&brief);
@@ -253,6 +255,7 @@ fn apart<'a>(reader: &Reader<&'a [u8]>, what: &str, page: &mut Page, run: impl F
 
 fn inner_text(text: BytesText, page: &mut Page) {
     row!(page, '=', "{text:?}");
+    references::text(&text, page);
     row!(page, '=', "{:?}", text.into_inner());
 }
 
