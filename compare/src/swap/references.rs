@@ -62,7 +62,7 @@ fn first(raw: &str) -> Option<(Range<usize>, u32)> {
     })
 }
 
-/// An error with its place counted so many bytes from further on, if it tells one in this text and not in what a name stands for.
+/// An error with its place so many bytes further on, if it tells one in this text and not in what a name stands for.
 fn moved(error: Error, text: &str, by: usize) -> Error {
     let further = |range: &Range<usize>| range.start + by..range.end + by;
     match error {
@@ -74,7 +74,7 @@ fn moved(error: Error, text: &str, by: usize) -> Error {
     }
 }
 
-/// A text from behind its first quote up to its last one, as `Debug` writes it.
+/// A text that `Debug` wrote, from behind its first quote.
 fn unquoted(quoted: &str) -> Option<String> {
     let (mut text, mut rest) = (String::new(), quoted.chars());
     loop {

@@ -12,7 +12,7 @@ use std::borrow::Cow;
 pub type Given<'t> = Result<Cow<'t, str>, Error>;
 
 /// The ways to read a text, by their numbers.
-pub const WAYS: [fn(&str) -> Given; 7] = [
+pub const WAYS: [fn(&str) -> Given<'_>; 7] = [
     character,
     |raw| Ok(unescape(raw)?),
     |raw| Ok(unescape_with(raw, named)?),
@@ -27,16 +27,16 @@ const OF_TEXTS: [usize; 2] = [1, 2];
 const OF_VALUES: [usize; 6] = [1, 2, 3, 4, 5, 6];
 
 /// The character of a reference by a number, whose content this is; nothing of one by a name.
-fn character(raw: &str) -> Given {
+fn character(raw: &str) -> Given<'_> {
     Ok(BytesRef::new(raw).resolve_char_ref()?.map_or(Cow::Borrowed(""), |c| Cow::Owned(c.into())))
 }
 
 #[allow(deprecated)]
-fn unescape_value_with(raw: &str) -> Given {
+fn unescape_value_with(raw: &str) -> Given<'_> {
     attribute(raw).unescape_value_with(named)
 }
 
-fn attribute(value: &str) -> Attribute {
+fn attribute(value: &str) -> Attribute<'_> {
     Attribute { key: QName("a"), value: value.into() }
 }
 
