@@ -7,6 +7,7 @@
 mod attributes;
 mod check;
 mod columns;
+mod contents;
 mod escape;
 mod faults;
 mod inputs;

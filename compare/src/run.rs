@@ -223,6 +223,35 @@ pub fn tell<K>(found: &[(K, Difference)], tells: &Tells<K>) {
     }
 }
 
+/// What a comparison has counted in the end: what it should have seen and has not, and its line.
+pub trait Ends: Counts {
+    fn missing(&self) -> Vec<String>;
+    fn line(&self) -> String;
+}
+
+/// Runs every family, prints what was counted and tells what was found: true if nothing differs but what is listed, and, where all inputs were run, everything
+/// was seen that should be.
+pub fn ends<R: Runs>(
+    families: &[Family],
+    bench: impl Fn() -> R + Sync,
+    print: impl Fn(&[(&str, R::Tally)]) -> R::Tally,
+    tells: &Tells<R::Kept>,
+    whole: bool,
+) -> bool
+where
+    Worker<R>: Sink,
+    R::Tally: Ends,
+{
+    let (tallies, found) = run(families, bench);
+    let named: Vec<_> = families.iter().map(|family| family.name).zip(tallies).collect();
+    let mut all = print(&named);
+    tell(&found, tells);
+    let missing = if whole { all.missing() } else { Vec::new() };
+    missing.iter().for_each(|what| println!("never seen: {what}"));
+    println!("{}", all.line());
+    *all.differences() == 0 && all.sizes().0 > 0 && missing.is_empty()
+}
+
 /// Runs every job by benches made for it: the counts of each family, and some differences with the shortest documents.
 pub fn run<R: Runs>(families: &[Family], bench: impl Fn() -> R + Sync) -> (Vec<R::Tally>, Vec<Found<R>>)
 where

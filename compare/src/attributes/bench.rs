@@ -5,9 +5,9 @@ use super::summary::Tally;
 use super::theirs::{Item, Ruled, Rules};
 use super::*;
 use crate::check::Difference;
+use crate::contents::{self, Case, Kept};
 use crate::inputs::random::Dice;
-use crate::inputs::{Flow, Sink, ON};
-use crate::ours::DEFAULT;
+use crate::inputs::{Flow, Sink};
 use crate::run::{Runs, Worker};
 use sporebasket::lent;
 use std::str;
@@ -36,25 +36,6 @@ const AROUND: [(&[u8], &[u8]); 9] = [
     (b" \t\r\n", b" "),
     (b"", b"\" c=\"\"><"),
 ];
-
-/// An input: a content, and a number that says what it is run with.
-#[derive(Clone, Copy)]
-pub struct Case<'a> {
-    pub content: &'a [u8],
-    pub turn: u64,
-}
-
-#[derive(Clone)]
-pub struct Kept {
-    pub content: Vec<u8>,
-    pub turn: u64,
-}
-
-impl Kept {
-    pub fn case(&self) -> Case<'_> {
-        Case { content: &self.content, turn: self.turn }
-    }
-}
 
 /// What is asked: the attribute at a place, or the one of a name.
 #[derive(Clone, Debug)]
@@ -318,7 +299,7 @@ impl Runs for Bench {
     }
 
     fn kept(case: &Case) -> Kept {
-        Kept { content: case.content.to_vec(), turn: case.turn }
+        Kept::of(case)
     }
 
     fn length(kept: &Kept) -> usize {
@@ -329,12 +310,6 @@ impl Runs for Bench {
 impl Sink for Worker<Bench> {
     /// A content, which comes in the place of a document.
     fn case(&mut self, content: &[u8], settings: u16, _: usize) -> Flow {
-        if settings != DEFAULT {
-            return ON;
-        }
-        self.given += 1;
-        let turn = Dice::new(self.given ^ (content.len() as u64) << 40).next() >> 20;
-        self.one(&Case { content, turn })?;
-        ON
+        contents::case(self, content, settings)
     }
 }

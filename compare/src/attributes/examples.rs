@@ -1,10 +1,10 @@
 //! The inputs that docs/DIFFERENCES.md names for attributes, with what both sides give for them.
 
 use super::account::Step;
-use super::bench::Case;
 use super::summary::Tally;
 use super::theirs::Item;
 use super::*;
+use crate::contents::Case;
 use crate::run::Runs;
 
 /// A content, whether the crate checks for duplicates, what ours and the crate give, and the rows by which they differ.

@@ -11,9 +11,9 @@
 //! `attribute-duplicate`. What it gives behind our refusal is not written.
 
 use super::account::Step;
-use super::bench::Case;
 use super::theirs::Item;
 use super::*;
+use crate::contents::Case;
 use crate::inputs::random::Dice;
 use crate::inputs::{Flow, Sink, ON};
 use crate::run::Runs;

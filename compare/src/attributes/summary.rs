@@ -2,7 +2,8 @@
 
 use super::account::Reading;
 use super::*;
-use crate::run::Counts;
+use crate::contents;
+use crate::run::{Counts, Ends};
 use crate::summary::pairs;
 use crate::trace::escaped;
 
@@ -105,38 +106,7 @@ impl Tally {
 
     /// Of two of a length the one with bytes that come first here.
     fn shorter(&mut self, row: usize, content: &[u8]) {
-        let rank = |&b: &u8| b"ab ='\"<".iter().position(|&first| first == b).unwrap_or(b as usize + 10);
-        let kept = &mut self.shortest[row];
-        let before = |kept: &Vec<u8>| content.len() == kept.len() && content.iter().map(rank).lt(kept.iter().map(rank));
-        if kept.as_ref().is_none_or(|kept| content.len() < kept.len() || before(kept)) {
-            *kept = Some(content.to_vec());
-        }
-    }
-
-    /// What a comparison that tests something has seen, and this one has not.
-    pub fn missing(&self) -> Vec<String> {
-        let mut missing: Vec<String> = REFUSALS.iter().filter(|&&n| self.ends[n] == 0).map(|n| format!("refusal {n}")).collect();
-        let others = [
-            (self.ends[0], "a content that is read whole"),
-            (self.attributes, "an attribute"),
-            (self.many, "many attributes"),
-            (self.contents - self.texts, "a content that is not UTF-8"),
-            (self.same[0], "a refusal that the crate has too"),
-        ];
-        missing.extend(others.iter().filter(|(count, _)| *count == 0).map(|(_, what)| what.to_string()));
-        let seen = |row: usize| self.listed[0][row] + self.listed[1][row] > 0;
-        missing.extend((0..listed::COUNT).filter(|&row| !seen(row)).map(|row| format!("listed difference {}", TAGS[row])));
-        missing
-    }
-
-    /// All of it on a line.
-    pub fn line(&self) -> String {
-        let Self { contents, calls, texts, attributes, differences, .. } = self;
-        let [whole, refused] = [self.ends[0], self.ends[1..].iter().sum()];
-        format!(
-            "attributes: {contents} contents, {calls} calls, {attributes} attributes; {whole} contents whole, {refused} refused; {texts} read by the crate \
-             twice; {differences} differences"
-        )
+        contents::shorter(&mut self.shortest[row], content, b"ab ='\"<");
     }
 
     fn table(&self) {
@@ -151,6 +121,32 @@ impl Tally {
             let shortest = self.shortest[row].as_ref().map_or(String::new(), |content| format!(", first at |{}|", escaped(content)));
             println!("  {:>14} {:>14}  {tag}{shortest}", self.listed[0][row], self.listed[1][row]);
         }
+    }
+}
+
+impl Ends for Tally {
+    fn missing(&self) -> Vec<String> {
+        let mut missing: Vec<String> = REFUSALS.iter().filter(|&&n| self.ends[n] == 0).map(|n| format!("refusal {n}")).collect();
+        let others = [
+            (self.ends[0], "a content that is read whole"),
+            (self.attributes, "an attribute"),
+            (self.many, "many attributes"),
+            (self.contents - self.texts, "a content that is not UTF-8"),
+            (self.same[0], "a refusal that the crate has too"),
+        ];
+        missing.extend(others.iter().filter(|(count, _)| *count == 0).map(|(_, what)| what.to_string()));
+        let seen = |row: usize| self.listed[0][row] + self.listed[1][row] > 0;
+        missing.extend((0..listed::COUNT).filter(|&row| !seen(row)).map(|row| format!("listed difference {}", TAGS[row])));
+        missing
+    }
+
+    fn line(&self) -> String {
+        let Self { contents, calls, texts, attributes, differences, .. } = self;
+        let [whole, refused] = [self.ends[0], self.ends[1..].iter().sum()];
+        format!(
+            "attributes: {contents} contents, {calls} calls, {attributes} attributes; {whole} contents whole, {refused} refused; {texts} read by the crate \
+             twice; {differences} differences"
+        )
     }
 }
 

@@ -1,7 +1,7 @@
 //! Counts of what was compared, and the summary.
 
 use super::*;
-use crate::run::Counts;
+use crate::run::{Counts, Ends};
 use crate::summary::pairs;
 
 /// The refusals that the default settings can lead to.
@@ -55,8 +55,16 @@ impl Tally {
         }
     }
 
-    /// What a comparison that tests something has seen, and this one has not.
-    pub fn missing(&self) -> Vec<String> {
+    /// How many were read whole, and how many refused with 30, with 31, by the reader, and with 17.
+    fn outcomes(&self) -> [u64; 5] {
+        let [whole, few, bad, full] = [0, BAD_STATE, BAD_TIME, COLUMN_FULL].map(|number| self.numbers[number]);
+        let readers = self.numbers.iter().sum::<u64>() - whole - few - bad - full;
+        [whole, bad, full, readers, few]
+    }
+}
+
+impl Ends for Tally {
+    fn missing(&self) -> Vec<String> {
         let mut missing: Vec<String> = REFUSALS.iter().filter(|&&n| self.numbers[n] == 0).map(|n| format!("refusal {n}")).collect();
         let others = [
             (self.numbers[0], "a document that is read whole"),
@@ -67,15 +75,7 @@ impl Tally {
         missing
     }
 
-    /// How many were read whole, and how many refused with 30, with 31, by the reader, and with 17.
-    fn outcomes(&self) -> [u64; 5] {
-        let [whole, few, bad, full] = [0, BAD_STATE, BAD_TIME, COLUMN_FULL].map(|number| self.numbers[number]);
-        let readers = self.numbers.iter().sum::<u64>() - whole - few - bad - full;
-        [whole, bad, full, readers, few]
-    }
-
-    /// All of it on a line.
-    pub fn line(&self) -> String {
+    fn line(&self) -> String {
         let Self { documents, inputs, times, ordered: [ordered, not], differences, .. } = self;
         let [whole, bad, full, readers, few] = self.outcomes();
         format!(

@@ -6,9 +6,9 @@ use super::summary::Tally;
 use super::theirs::Rules;
 use super::*;
 use crate::check::Difference;
+use crate::contents::{self, Case, Kept};
 use crate::inputs::random::Dice;
-use crate::inputs::{Flow, Sink, ON};
-use crate::ours::DEFAULT;
+use crate::inputs::{Flow, Sink};
 use crate::run::{Runs, Worker};
 use sporebasket::lent;
 use std::borrow::Cow;
@@ -28,25 +28,6 @@ const CHARACTER: usize = 4;
 const FEW: u64 = 7;
 /// What stands in the bytes that nobody has to write is one of so many runs.
 const RUNS: u64 = 251;
-
-/// An input: a content, and a number that says what it is run with.
-#[derive(Clone, Copy)]
-pub struct Case<'a> {
-    pub content: &'a [u8],
-    pub turn: u64,
-}
-
-#[derive(Clone)]
-pub struct Kept {
-    pub content: Vec<u8>,
-    pub turn: u64,
-}
-
-impl Kept {
-    pub fn case(&self) -> Case<'_> {
-        Case { content: &self.content, turn: self.turn }
-    }
-}
 
 /// What is asked: a whole text or one reference, into a buffer of some bytes from a place on, with so many slots.
 #[derive(Clone, Copy)]
@@ -336,7 +317,7 @@ impl Runs for Bench {
     }
 
     fn kept(case: &Case) -> Kept {
-        Kept { content: case.content.to_vec(), turn: case.turn }
+        Kept::of(case)
     }
 
     fn length(kept: &Kept) -> usize {
@@ -347,12 +328,6 @@ impl Runs for Bench {
 impl Sink for Worker<Bench> {
     /// A content, which comes in the place of a document.
     fn case(&mut self, content: &[u8], settings: u16, _: usize) -> Flow {
-        if settings != DEFAULT {
-            return ON;
-        }
-        self.given += 1;
-        let turn = Dice::new(self.given ^ (content.len() as u64) << 40).next() >> 20;
-        self.one(&Case { content, turn })?;
-        ON
+        contents::case(self, content, settings)
     }
 }

@@ -1,9 +1,9 @@
 //! The inputs that docs/DIFFERENCES.md names for references, with what both sides give for them.
 
-use super::bench::Case;
 use super::summary::Tally;
 use super::theirs::Fault;
 use super::*;
+use crate::contents::Case;
 use crate::run::Runs;
 use crate::trace::escaped;
 use std::borrow::Cow;

@@ -10,10 +10,10 @@
 //! `UnrecognizedEntity`; or, with no place since the crate tells none, 25 for a sign, no digit or a byte that is none, and 26 for a number past 32 bits, 0 and what is no
 //! value of Unicode. For a single reference the crate is asked with `&` and `;` around it.
 
-use super::bench::Case;
 use super::listed::Told;
 use super::theirs::Fault;
 use super::*;
+use crate::contents::Case;
 use crate::inputs::random::Dice;
 use crate::inputs::{Flow, Sink, ON};
 use crate::run::Runs;

@@ -4,7 +4,8 @@ use super::account::Reading;
 use super::listed::Told;
 use super::theirs::FAULTS;
 use super::*;
-use crate::run::Counts;
+use crate::contents;
+use crate::run::{Counts, Ends};
 use crate::summary::pairs;
 
 /// The refusals that a content can have, whatever the room.
@@ -104,41 +105,7 @@ impl Tally {
 
     /// Of two of a length the one with bytes that come first here.
     fn shorter(&mut self, row: usize, content: &[u8]) {
-        let rank = |&b: &u8| b"&#;1".iter().position(|&first| first == b).unwrap_or(b as usize + 10);
-        let kept = &mut self.shortest[row];
-        let before = |kept: &Vec<u8>| content.len() == kept.len() && content.iter().map(rank).lt(kept.iter().map(rank));
-        if kept.as_ref().is_none_or(|kept| content.len() < kept.len() || before(kept)) {
-            *kept = Some(content.to_vec());
-        }
-    }
-
-    /// What a comparison that tests something has seen, and this one has not.
-    pub fn missing(&self) -> Vec<String> {
-        let mut missing: Vec<String> = REFUSALS.iter().filter(|&&n| self.ends[n] == 0).map(|n| format!("refusal {n}")).collect();
-        let others = [
-            (self.ends[0], "a content that is taken"),
-            (self.shorter, "a content with a reference that is taken"),
-            (self.full, "refusal 27"),
-            (self.taken, "a content that the crate alone takes"),
-            (self.contents - self.texts, "a content that is not UTF-8"),
-            (self.same[1], "a single reference that both refuse"),
-        ];
-        missing.extend(others.iter().filter(|(count, _)| *count == 0).map(|(_, what)| what.to_string()));
-        let last = FAULTS.len() - 1;
-        missing.extend((0..last).filter(|&row| self.faults[row] == 0).map(|row| format!("the crate's {}", FAULTS[row])));
-        let seen = |row: usize| self.listed[0][row] > 0 && self.listed[1][row] > 0;
-        missing.extend((0..listed::COUNT).filter(|&row| !seen(row)).map(|row| format!("listed difference {}", TAGS[row])));
-        missing
-    }
-
-    /// All of it on a line.
-    pub fn line(&self) -> String {
-        let Self { contents, calls, full, texts, differences, .. } = self;
-        let [whole, refused] = [self.ends[0], self.ends[1..].iter().sum()];
-        format!(
-            "escape: {contents} contents, {calls} calls, {full} of them refused with 27; with room {whole} contents taken, {refused} refused; {texts} read by \
-             the crate; {differences} differences"
-        )
+        contents::shorter(&mut self.shortest[row], content, b"&#;1");
     }
 
     fn table(&self) {
@@ -158,6 +125,35 @@ impl Tally {
             println!("  {:>14} {:>14}  {tag}{shortest}", self.listed[0][row], self.listed[1][row]);
         }
         println!("  {:>14}  of the contents are taken by the crate, to their end", self.taken);
+    }
+}
+
+impl Ends for Tally {
+    fn missing(&self) -> Vec<String> {
+        let mut missing: Vec<String> = REFUSALS.iter().filter(|&&n| self.ends[n] == 0).map(|n| format!("refusal {n}")).collect();
+        let others = [
+            (self.ends[0], "a content that is taken"),
+            (self.shorter, "a content with a reference that is taken"),
+            (self.full, "refusal 27"),
+            (self.taken, "a content that the crate alone takes"),
+            (self.contents - self.texts, "a content that is not UTF-8"),
+            (self.same[1], "a single reference that both refuse"),
+        ];
+        missing.extend(others.iter().filter(|(count, _)| *count == 0).map(|(_, what)| what.to_string()));
+        let last = FAULTS.len() - 1;
+        missing.extend((0..last).filter(|&row| self.faults[row] == 0).map(|row| format!("the crate's {}", FAULTS[row])));
+        let seen = |row: usize| self.listed[0][row] > 0 && self.listed[1][row] > 0;
+        missing.extend((0..listed::COUNT).filter(|&row| !seen(row)).map(|row| format!("listed difference {}", TAGS[row])));
+        missing
+    }
+
+    fn line(&self) -> String {
+        let Self { contents, calls, full, texts, differences, .. } = self;
+        let [whole, refused] = [self.ends[0], self.ends[1..].iter().sum()];
+        format!(
+            "escape: {contents} contents, {calls} calls, {full} of them refused with 27; with room {whole} contents taken, {refused} refused; {texts} read by \
+             the crate; {differences} differences"
+        )
     }
 }
 

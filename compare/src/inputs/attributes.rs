@@ -1,17 +1,21 @@
 //! Contents of tags, for the reading of attributes: all sequences of a few bytes and of tokens, every byte in every place, random tags and damaged copies of them,
 //! names that are nearly the same, many attributes, long ones; and the tags of documents. Each comes in the place of a document, with the default settings.
 
+use super::contents::{self, NONE};
 use super::exhaustive::{bytes, family, tokens, Alphabet};
-use super::random::{damage, Dice};
+use super::random::Dice;
 use super::*;
 use crate::theirs::Theirs;
 
-/// A content takes no stack.
-const NONE: usize = 0;
-
 pub fn families(amount: Amount, seed: u64) -> Vec<Family> {
     let mut families: Vec<Family> = alphabets().into_iter().map(|alphabet| family(alphabet, amount)).collect();
-    families.extend([places(), two_places(amount), names(), lengths(amount), many(amount)]);
+    families.extend([
+        contents::places("a byte in every place of a tag", TEMPLATES),
+        two_places(amount),
+        names(),
+        lengths(amount),
+        many(amount),
+    ]);
     families.extend([tags(amount, seed), soups(amount, seed), noise(amount, seed)]);
     families
 }
@@ -79,27 +83,6 @@ const TEMPLATES: &[&[u8]] = &[
     b"r \xC3\xA9='\xE2\x82\xAC' a=''",
     b"t\ta='\"' b=\"'\"\n",
 ];
-
-/// Every byte value in every place, put in and put over, and the content cut off there.
-fn places() -> Family {
-    Family::new("a byte in every place of a tag", TEMPLATES.len(), |job, sink| {
-        let template = TEMPLATES[job];
-        for place in 0..=template.len() {
-            for value in 0..=u8::MAX {
-                let mut content = template.to_vec();
-                content.insert(place, value);
-                sink.case(&content, DEFAULT, NONE)?;
-                content.remove(place);
-                if place < template.len() {
-                    content[place] = value;
-                    sink.case(&content, DEFAULT, NONE)?;
-                }
-            }
-            sink.case(&template[..place], DEFAULT, NONE)?;
-        }
-        ON
-    })
-}
 
 /// Every two bytes behind each other, and the same two in any two places.
 fn two_places(amount: Amount) -> Family {
@@ -272,35 +255,20 @@ fn tag(dice: &mut Dice, out: &mut Vec<u8>, count: usize, again: usize) {
     }
 }
 
-/// A byte that matters put in, put over or taken out.
-fn hurt(dice: &mut Dice, content: &mut Vec<u8>) {
-    let at = dice.below(content.len().max(1));
-    let byte = *dice.pick(&[&b' ', &b'=', &b'\'', &b'"', &b'<', &b'a', &b'\n', &b'/']);
-    match dice.below(4) {
-        _ if content.is_empty() => content.push(byte),
-        0 => content.insert(at, byte),
-        1 => content[at] = byte,
-        2 => drop(content.remove(at)),
-        _ => damage(dice, content),
-    }
-}
+/// Bytes that matter.
+const MATTERING: &[&u8] = &[&b' ', &b'=', &b'\'', &b'"', &b'<', &b'a', &b'\n', &b'/'];
 
 /// Random tags with few attributes or many, and damaged copies of each.
 fn tags(amount: Amount, seed: u64) -> Family {
     const EACH: usize = 1_000;
     Family::new("random tags and damaged copies", amount.of(40, 1_200), move |job, sink| {
         let mut dice = Dice::new(seed ^ (job as u64) << 20 ^ 0x6174_7472);
-        let (mut content, mut copy) = (Vec::new(), Vec::new());
+        let mut content = Vec::new();
         for turn in 0..EACH {
             let count = if turn % 50 == 0 { 20 + dice.below(60) } else { dice.below(7) };
             let again = [0, 0, 3, 12][dice.below(4)];
             tag(&mut dice, &mut content, count, again);
-            sink.case(&content, DEFAULT, NONE)?;
-            for damages in 1..4 {
-                copy.clone_from(&content);
-                (0..damages).for_each(|_| hurt(&mut dice, &mut copy));
-                sink.case(&copy, DEFAULT, NONE)?;
-            }
+            contents::damaged(sink, &mut dice, &content, MATTERING)?;
         }
         ON
     })
@@ -308,45 +276,29 @@ fn tags(amount: Amount, seed: u64) -> Family {
 
 /// Names, values and all else in any order.
 fn soups(amount: Amount, seed: u64) -> Family {
-    const EACH: usize = 5_000;
-    Family::new("random tokens of a tag", amount.of(60, 1_600), move |job, sink| {
-        let mut dice = Dice::new(seed ^ (job as u64) << 20 ^ 0x746F_6B73);
-        let mut content = Vec::new();
-        for _ in 0..EACH {
-            content.clear();
-            content.extend(dice.pick(&["r", "r ", "", " ", "a='1'"]).as_bytes());
-            for _ in 0..1 + dice.below(12) {
-                match dice.below(10) {
-                    0 | 1 => content.extend(dice.pick(&NAMES[..4]).as_bytes()),
-                    2 => content.extend(dice.pick(NAMES).as_bytes()),
-                    3 | 4 => content.extend(dice.pick(SPACES).as_bytes()),
-                    5 => content.extend(dice.pick(VALUES).as_bytes()),
-                    6 | 7 => content.extend(dice.pick(&["='1'", "=\"2\"", "=''", " = \"\"", "='"]).as_bytes()),
-                    _ => content.extend(dice.pick(&["=", "'", "\"", "<", "/", "&", "\x0B", "\0"]).as_bytes()),
-                }
+    contents::drawn("random tokens of a tag", amount.of(60, 1_600), seed, 0x746F_6B73, |dice, content| {
+        content.extend(dice.pick(&["r", "r ", "", " ", "a='1'"]).as_bytes());
+        for _ in 0..1 + dice.below(12) {
+            match dice.below(10) {
+                0 | 1 => content.extend(dice.pick(&NAMES[..4]).as_bytes()),
+                2 => content.extend(dice.pick(NAMES).as_bytes()),
+                3 | 4 => content.extend(dice.pick(SPACES).as_bytes()),
+                5 => content.extend(dice.pick(VALUES).as_bytes()),
+                6 | 7 => content.extend(dice.pick(&["='1'", "=\"2\"", "=''", " = \"\"", "='"]).as_bytes()),
+                _ => content.extend(dice.pick(&["=", "'", "\"", "<", "/", "&", "\x0B", "\0"]).as_bytes()),
             }
-            sink.case(&content, DEFAULT, NONE)?;
         }
-        ON
     })
 }
 
 /// Any bytes, mostly those that matter, UTF-8 or not.
 fn noise(amount: Amount, seed: u64) -> Family {
-    const EACH: usize = 5_000;
-    Family::new("random bytes", amount.of(20, 400), move |job, sink| {
-        let mut dice = Dice::new(seed ^ (job as u64) << 20 ^ 0x6E6F_6973);
-        let mut content = Vec::new();
-        for _ in 0..EACH {
-            content.clear();
-            let any = [2, 9, 40][dice.below(3)];
-            for _ in 0..dice.below(40) {
-                let byte =
-                    if dice.below(any) == 0 { dice.next() as u8 } else { *dice.pick(&[&b' ', &b'=', &b'\'', &b'"', &b'a', &b'b', &b'<']) };
-                content.push(byte);
-            }
-            sink.case(&content, DEFAULT, NONE)?;
+    contents::drawn("random bytes", amount.of(20, 400), seed, 0x6E6F_6973, |dice, content| {
+        let any = [2, 9, 40][dice.below(3)];
+        for _ in 0..dice.below(40) {
+            let byte =
+                if dice.below(any) == 0 { dice.next() as u8 } else { *dice.pick(&[&b' ', &b'=', &b'\'', &b'"', &b'a', &b'b', &b'<']) };
+            content.push(byte);
         }
-        ON
     })
 }

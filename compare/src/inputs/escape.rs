@@ -2,18 +2,25 @@
 //! one of the five, every byte in every place, long texts, random ones and damaged copies of them; and the texts of documents. Each comes in the place of a document,
 //! with the default settings.
 
+use super::contents::{self, NONE};
 use super::exhaustive::{bytes, family, tokens, Alphabet};
-use super::random::{damage, Dice};
+use super::random::Dice;
 use super::*;
 
-/// A content takes no stack.
-const NONE: usize = 0;
 /// A document with one does.
 const WITHIN: usize = 8;
 
 pub fn families(amount: Amount, seed: u64) -> Vec<Family> {
     let mut families: Vec<Family> = alphabets().into_iter().map(|alphabet| family(alphabet, amount)).collect();
-    families.extend([values(amount), limits(), names(), places(), two_places(amount), runs(amount), long(amount)]);
+    families.extend([
+        values(amount),
+        limits(),
+        names(),
+        contents::places("a byte in every place of a text", TEMPLATES),
+        two_places(amount),
+        runs(amount),
+        long(amount),
+    ]);
     families.extend([texts(amount, seed), soups(amount, seed), noise(amount, seed)]);
     families
 }
@@ -234,27 +241,6 @@ const TEMPLATES: &[&[u8]] = &[
     b"plain; text\r\n\t",
 ];
 
-/// Every byte value in every place, put in and put over, and the content cut off there.
-fn places() -> Family {
-    Family::new("a byte in every place of a text", TEMPLATES.len(), |job, sink| {
-        let template = TEMPLATES[job];
-        for place in 0..=template.len() {
-            for value in 0..=u8::MAX {
-                let mut content = template.to_vec();
-                content.insert(place, value);
-                sink.case(&content, DEFAULT, NONE)?;
-                content.remove(place);
-                if place < template.len() {
-                    content[place] = value;
-                    sink.case(&content, DEFAULT, NONE)?;
-                }
-            }
-            sink.case(&template[..place], DEFAULT, NONE)?;
-        }
-        ON
-    })
-}
-
 /// Every two bytes behind each other in two small contents.
 fn two_places(amount: Amount) -> Family {
     const OF: [&[u8]; 2] = [b"&#65;&lt;", b"&#xA0;b"];
@@ -387,34 +373,19 @@ fn number(dice: &mut Dice, out: &mut Vec<u8>) {
     out.extend(reference.as_bytes());
 }
 
-/// A byte that matters put in, put over or taken out.
-fn hurt(dice: &mut Dice, content: &mut Vec<u8>) {
-    let at = dice.below(content.len().max(1));
-    let byte = *dice.pick(&[&b'&', &b';', &b'#', &b'x', &b'0', &b'7', &b'a', &b'l', &b'<']);
-    match dice.below(4) {
-        _ if content.is_empty() => content.push(byte),
-        0 => content.insert(at, byte),
-        1 => content[at] = byte,
-        2 => drop(content.remove(at)),
-        _ => damage(dice, content),
-    }
-}
+/// Bytes that matter.
+const MATTERING: &[&u8] = &[&b'&', &b';', &b'#', &b'x', &b'0', &b'7', &b'a', &b'l', &b'<'];
 
 /// Random texts with good references and bad ones, and damaged copies of each.
 fn texts(amount: Amount, seed: u64) -> Family {
     const EACH: usize = 1_000;
     Family::new("random texts and damaged copies", amount.of(40, 2_400), move |job, sink| {
         let mut dice = Dice::new(seed ^ (job as u64) << 20 ^ 0x7465_7874);
-        let (mut content, mut copy) = (Vec::new(), Vec::new());
+        let mut content = Vec::new();
         for _ in 0..EACH {
             let bad = [1, 4, 40][dice.below(3)];
             text(&mut dice, &mut content, bad);
-            sink.case(&content, DEFAULT, NONE)?;
-            for damages in 1..4 {
-                copy.clone_from(&content);
-                (0..damages).for_each(|_| hurt(&mut dice, &mut copy));
-                sink.case(&copy, DEFAULT, NONE)?;
-            }
+            contents::damaged(sink, &mut dice, &content, MATTERING)?;
         }
         ON
     })
@@ -422,46 +393,30 @@ fn texts(amount: Amount, seed: u64) -> Family {
 
 /// References good and bad, text and parts of references in any order.
 fn soups(amount: Amount, seed: u64) -> Family {
-    const EACH: usize = 5_000;
     const PARTS: &[&str] = &["&", ";", "#", "x", "&#", "&#x", "0", "41", "D8", "FF", "FE", "lt", "amp", "X", "+", "g"];
-    Family::new("random parts of references", amount.of(30, 2_000), move |job, sink| {
-        let mut dice = Dice::new(seed ^ (job as u64) << 20 ^ 0x7061_7274);
-        let mut content = Vec::new();
-        for _ in 0..EACH {
-            content.clear();
-            for _ in 0..1 + dice.below(9) {
-                let part = match dice.below(8) {
-                    0 | 1 => dice.pick(GOOD),
-                    2 if dice.below(3) == 0 => dice.pick(BAD),
-                    3 => dice.pick(PLAIN),
-                    _ => dice.pick(PARTS),
-                };
-                content.extend(part.as_bytes());
-            }
-            sink.case(&content, DEFAULT, NONE)?;
+    contents::drawn("random parts of references", amount.of(30, 2_000), seed, 0x7061_7274, |dice, content| {
+        for _ in 0..1 + dice.below(9) {
+            let part = match dice.below(8) {
+                0 | 1 => dice.pick(GOOD),
+                2 if dice.below(3) == 0 => dice.pick(BAD),
+                3 => dice.pick(PLAIN),
+                _ => dice.pick(PARTS),
+            };
+            content.extend(part.as_bytes());
         }
-        ON
     })
 }
 
 /// Any bytes, mostly those that matter, UTF-8 or not.
 fn noise(amount: Amount, seed: u64) -> Family {
-    const EACH: usize = 5_000;
-    Family::new("random bytes", amount.of(20, 400), move |job, sink| {
-        let mut dice = Dice::new(seed ^ (job as u64) << 20 ^ 0x6E6F_6973);
-        let mut content = Vec::new();
-        for _ in 0..EACH {
-            content.clear();
-            let any = [2, 9, 40][dice.below(3)];
-            for _ in 0..dice.below(40) {
-                let byte = if dice.below(any) == 0 { dice.next() as u8 } else { *dice.pick(&[&b'a', &b'b', &b';', &b'#', &b'1', &b' ']) };
-                content.push(byte);
-                if dice.below(9) == 0 {
-                    content.extend(dice.pick(GOOD).as_bytes());
-                }
+    contents::drawn("random bytes", amount.of(20, 400), seed, 0x6E6F_6973, |dice, content| {
+        let any = [2, 9, 40][dice.below(3)];
+        for _ in 0..dice.below(40) {
+            let byte = if dice.below(any) == 0 { dice.next() as u8 } else { *dice.pick(&[&b'a', &b'b', &b';', &b'#', &b'1', &b' ']) };
+            content.push(byte);
+            if dice.below(9) == 0 {
+                content.extend(dice.pick(GOOD).as_bytes());
             }
-            sink.case(&content, DEFAULT, NONE)?;
         }
-        ON
     })
 }

@@ -3,6 +3,7 @@
 mod attributes;
 pub mod blocks;
 mod columns;
+mod contents;
 mod escape;
 mod exhaustive;
 mod files;
