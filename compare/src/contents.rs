@@ -4,6 +4,9 @@ use crate::inputs::random::Dice;
 use crate::inputs::{Flow, ON};
 use crate::ours::DEFAULT;
 use crate::run::{Runs, Worker};
+use std::fs;
+use std::io;
+use std::path::Path;
 
 /// An input: a content, and a number that says what it is run with.
 #[derive(Clone, Copy)]
@@ -49,4 +52,32 @@ pub fn shorter(kept: &mut Option<Vec<u8>>, content: &[u8], order: &[u8]) {
     if kept.as_ref().is_none_or(|kept| content.len() < kept.len() || before(kept)) {
         *kept = Some(content.to_vec());
     }
+}
+
+/// What a program replays: the first line of each content, and all its lines, list by list; in each the short ones first.
+pub fn laid<'a>(lists: impl Iterator<Item = &'a Vec<String>>) -> (String, String) {
+    let (mut stdin, mut stdout) = (String::new(), String::new());
+    for lines in lists {
+        let mut lines = lines.clone();
+        lines.sort_by_key(|lines| (lines.lines().next().map_or(0, str::len), lines.clone()));
+        for lines in lines {
+            stdin.push_str(lines.lines().next().unwrap_or_default());
+            stdin.push('\n');
+            stdout.push_str(&lines);
+        }
+    }
+    (stdin, stdout)
+}
+
+/// Writes that into the folder, as `stdin` and `stdout`: false if there is none, since something is not covered.
+pub fn record(folder: &Path, laid: Option<(String, String)>, what: &str, option: &str) -> io::Result<bool> {
+    let Some((stdin, stdout)) = laid else {
+        println!("record: lacking contents {what}, or equality: see tools/compare {option}");
+        return Ok(false);
+    };
+    fs::create_dir_all(folder)?;
+    fs::write(folder.join("stdin"), &stdin)?;
+    fs::write(folder.join("stdout"), &stdout)?;
+    println!("record: {} contents {what}, {} bytes", stdin.lines().count(), stdin.len());
+    Ok(true)
 }

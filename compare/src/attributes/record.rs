@@ -13,7 +13,7 @@
 use super::account::Step;
 use super::theirs::Item;
 use super::*;
-use crate::contents::Case;
+use crate::contents::{self, Case};
 use crate::inputs::random::Dice;
 use crate::inputs::{Flow, Sink, ON};
 use crate::run::Runs;
@@ -212,29 +212,12 @@ fn recorded(seed: u64) -> Option<(String, String)> {
     if recorder.failed || !recorder.full() {
         return None;
     }
-    let (mut stdin, mut stdout) = (String::new(), String::new());
-    // those without a difference first, then by their rows; the short ones first
+    // those without a difference first, then by their rows
     let (alike, rows) = recorder.contents.split_last()?;
-    for lines in std::iter::once(alike).chain(rows) {
-        let mut lines = lines.clone();
-        lines.sort_by_key(|lines| (lines.lines().next().map_or(0, str::len), lines.clone()));
-        for lines in lines {
-            let _ = writeln!(stdin, "{}", lines.lines().next().unwrap_or_default());
-            stdout.push_str(&lines);
-        }
-    }
-    Some((stdin, stdout))
+    Some(contents::laid(std::iter::once(alike).chain(rows)))
 }
 
 /// Writes `stdin` and `stdout` into the folder: false if something is not covered.
 pub fn record(folder: &Path, seed: u64) -> std::io::Result<bool> {
-    let Some((stdin, stdout)) = recorded(seed) else {
-        println!("record: lacking contents of attributes, or equality: see tools/compare --attributes");
-        return Ok(false);
-    };
-    std::fs::create_dir_all(folder)?;
-    std::fs::write(folder.join("stdin"), &stdin)?;
-    std::fs::write(folder.join("stdout"), &stdout)?;
-    println!("record: {} contents of attributes, {} bytes", stdin.lines().count(), stdin.len());
-    Ok(true)
+    contents::record(folder, recorded(seed), "of attributes", "--attributes")
 }

@@ -13,7 +13,7 @@
 use super::listed::Told;
 use super::theirs::Fault;
 use super::*;
-use crate::contents::Case;
+use crate::contents::{self, Case};
 use crate::inputs::random::Dice;
 use crate::inputs::{Flow, Sink, ON};
 use crate::run::Runs;
@@ -236,29 +236,12 @@ fn recorded(seed: u64) -> Option<(String, String)> {
     if recorder.failed || !recorder.full() {
         return None;
     }
-    let (mut stdin, mut stdout) = (String::new(), String::new());
-    // those without a difference first, then by their rows; the short ones first
+    // those without a difference first, then by their rows
     let (alike, rows) = recorder.contents.split_last()?;
-    for lines in std::iter::once(alike).chain(rows).flatten() {
-        let mut lines = lines.clone();
-        lines.sort_by_key(|lines| (lines.lines().next().map_or(0, str::len), lines.clone()));
-        for lines in lines {
-            let _ = writeln!(stdin, "{}", lines.lines().next().unwrap_or_default());
-            stdout.push_str(&lines);
-        }
-    }
-    Some((stdin, stdout))
+    Some(contents::laid(std::iter::once(alike).chain(rows).flatten()))
 }
 
 /// Writes `stdin` and `stdout` into the folder: false if something is not covered.
 pub fn record(folder: &Path, seed: u64) -> std::io::Result<bool> {
-    let Some((stdin, stdout)) = recorded(seed) else {
-        println!("record: lacking contents with references, or equality: see tools/compare --escape");
-        return Ok(false);
-    };
-    std::fs::create_dir_all(folder)?;
-    std::fs::write(folder.join("stdin"), &stdin)?;
-    std::fs::write(folder.join("stdout"), &stdout)?;
-    println!("record: {} contents with references, {} bytes", stdin.lines().count(), stdin.len());
-    Ok(true)
+    contents::record(folder, recorded(seed), "with references", "--escape")
 }
