@@ -1,33 +1,15 @@
 -- A scalar value and its bytes determine each other. Assumes nothing.
 use Prim.Native.Nat.{ℕ, _+_, _-_, _*_, _/_, _%_, _≤_, _<_}
-use mathlib.Core.Path.{_≡_, refl, sym, ap, _∙_}
+use mathlib.Core.Path.{_≡_, ap, _∙_}
 use mathlib.Core.Bool.{true}
 use mathlib.Core.Logic.{inl, inr}
 use mathlib.Core.List.{List, [], _∷_}
 use native.Mathlib.Omega.{arith}
 use native.Mathlib.Decide.{decLt}
-use Rattle.ground.proofs.Choices.{clash}
 use Rattle.utf8.specs.Utf8.{Range, utf8Tail, rows, Matches, MatchesOne, Char}
 use Rattle.escape.specs.Scalar.{isScalar, tail, octets}
 use Rattle.escape.specs.Words.{valueOf}
-use Rattle.escape.proofs.Ranges.{range-in, range-under, range-over, range-low}
-use Rattle.escape.proofs.Encodes.{scalar-most, octets-1, octets-2, octets-3, octets-4}
-
--- ---- scalar values
-
--- no surrogate is one
-pub scalar-gap : (v : ℕ) → isScalar v ≡ true → 0xD800 ≤ v → 0xE000 ≤ v
-scalar-gap v e h =
-    elim (decLt v 0xE000) [
-      | no k ↦ omega arith
-      | yes k ↦ clash (isScalar v) e (sym (range-over _ _ _ v 0 0xD7FF 0xD800 refl h (range-under _ _ _ v 0xE000 0x10FFFF 0xE000 refl k refl)))
-    ]
-
-pub scalar-low : (v : ℕ) → v < 0xD800 → isScalar v ≡ true
-scalar-low v h = sym (range-low _ _ _ v 0xD7FF 0xD800 refl h refl)
-
-pub scalar-high : (v : ℕ) → 0xE000 ≤ v → v < 0x110000 → isScalar v ≡ true
-scalar-high v h k = sym (range-over _ _ _ v 0 0xD7FF 0xD800 refl (omega arith) (range-in _ _ _ v 0xE000 0x10FFFF 0x110000 refl h k refl))
+use Rattle.escape.proofs.Encodes.{scalar-most, scalar-gap, scalar-low, scalar-high, octets-1, octets-2, octets-3, octets-4}
 
 -- ---- from the value to the bytes and back
 

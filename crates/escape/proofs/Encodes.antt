@@ -17,7 +17,9 @@ use Rattle.ground.specs.Choose.{pick}
 use Rattle.ground.proofs.Choices.{by-true, by-false, pick-le, pick-nle, pick-cases, clash}
 use Rattle.ground.proofs.Slots.{slot-still, slots}
 use Rattle.escape.specs.Scalar.{isScalar, tail, octets, Encoded}
-use Rattle.escape.proofs.Ranges.{range-over}
+use Rattle.escape.proofs.Ranges.{range-in, range-under, range-over, range-low}
+
+-- ---- scalar values
 
 -- the last scalar value
 pub scalar-most : (v : ℕ) → isScalar v ≡ true → v ≤ 0x10FFFF
@@ -26,6 +28,20 @@ scalar-most v e =
       | no h ↦ omega arith
       | yes h ↦ clash _ e (sym (range-over _ _ _ v 0 0xD7FF 0xD800 refl (omega arith) (range-over _ _ _ v 0xE000 0x10FFFF 0x110000 refl (omega arith) refl)))
     ]
+
+-- no surrogate is one
+pub scalar-gap : (v : ℕ) → isScalar v ≡ true → 0xD800 ≤ v → 0xE000 ≤ v
+scalar-gap v e h =
+    elim (decLt v 0xE000) [
+      | no k ↦ omega arith
+      | yes k ↦ clash (isScalar v) e (sym (range-over _ _ _ v 0 0xD7FF 0xD800 refl h (range-under _ _ _ v 0xE000 0x10FFFF 0xE000 refl k refl)))
+    ]
+
+pub scalar-low : (v : ℕ) → v < 0xD800 → isScalar v ≡ true
+scalar-low v h = sym (range-low _ _ _ v 0xD7FF 0xD800 refl h refl)
+
+pub scalar-high : (v : ℕ) → 0xE000 ≤ v → v < 0x110000 → isScalar v ≡ true
+scalar-high v h k = sym (range-over _ _ _ v 0 0xD7FF 0xD800 refl (omega arith) (range-in _ _ _ v 0xE000 0x10FFFF 0x110000 refl h k refl))
 
 -- ---- the four rows
 

@@ -17,10 +17,11 @@ use Rattle.ground.specs.Equal.{begins, same}
 use Rattle.ground.proofs.Choices.{by-true, by-false, pick-le, pick-nle, pick-lt, pick-nlt, pick-cases, clash, choices}
 use Rattle.ground.proofs.Lists.{drop-next, drop-done}
 use Rattle.escape.specs.declared.reference.Reference.{Reference}
-use Rattle.escape.specs.Scalar.{isChar, isScalar}
+use Rattle.escape.specs.Scalar.{among, isChar, isScalar}
 use Rattle.escape.specs.Reference.{digit, charOf, numberFrom, numberOf, ltName, gtName, ampName, aposName, quotName, hash, lowerX, referenceOf}
 use Rattle.escape.specs.Inside.{past}
-use Rattle.escape.proofs.Ranges.{range-in, range-under, range-over, range-low}
+use Rattle.escape.proofs.Ranges.{range-under, range-over}
+use Rattle.escape.proofs.Encodes.{scalar-low, scalar-high}
 
 -- ---- the character of a number
 
@@ -36,35 +37,32 @@ module _ (v : ℕ) (t : Bool) (q : t ≡ isChar v) where
 
 pub ruleset chars = (needs, char-is, char-not)
 
+-- from the surrogates on only the last two ranges count
+char-high : (v : ℕ) → 0xD800 ≤ v → (r : Bool) → r ≡ among ((0xE000, 0xFFFD) ∷ (0x10000, 0x10FFFF) ∷ []) v → r ≡ isChar v
+char-high v h r e =
+    range-over _ _ _ v 0x9 0x9 0xA refl (omega arith)
+    (range-over _ _ _ v 0xA 0xA 0xB refl (omega arith)
+    (range-over _ _ _ v 0xD 0xD 0xE refl (omega arith) (range-over _ _ _ v 0x20 0xD7FF 0xD800 refl h e)))
+
 -- no number from `past` on is one's
 past-char : (v : ℕ) → past ≤ v → isChar v ≡ false
 past-char v h =
-    sym (range-over _ _ _ v 0x9 0x9 0xA refl (omega arith)
-    (range-over _ _ _ v 0xA 0xA 0xB refl (omega arith)
-    (range-over _ _ _ v 0xD 0xD 0xE refl (omega arith)
-    (range-over _ _ _ v 0x20 0xD7FF 0xD800 refl (omega arith)
-    (range-over _ _ _ v 0xE000 0xFFFD 0xFFFE refl (omega arith)
-    (range-over _ _ _ v 0x10000 0x10FFFF 0x110000 refl (omega arith) refl))))))
+    sym (char-high v (omega arith) false
+    (range-over _ _ _ v 0xE000 0xFFFD 0xFFFE refl (omega arith) (range-over _ _ _ v 0x10000 0x10FFFF 0x110000 refl (omega arith) refl)))
 
 -- nor is a surrogate
 gap-char : (v : ℕ) → 0xD800 ≤ v → v < 0xE000 → isChar v ≡ false
-gap-char v h k =
-    sym (range-over _ _ _ v 0x9 0x9 0xA refl (omega arith)
-    (range-over _ _ _ v 0xA 0xA 0xB refl (omega arith)
-    (range-over _ _ _ v 0xD 0xD 0xE refl (omega arith)
-    (range-over _ _ _ v 0x20 0xD7FF 0xD800 refl h
-    (range-under _ _ _ v 0xE000 0xFFFD 0xE000 refl k
-    (range-under _ _ _ v 0x10000 0x10FFFF 0xE000 refl k refl))))))
+gap-char v h k = sym (char-high v h false (range-under _ _ _ v 0xE000 0xFFFD 0xE000 refl k (range-under _ _ _ v 0x10000 0x10FFFF 0xE000 refl k refl)))
 
 -- so a character's number is a scalar value
 pub char-scalar : (v : ℕ) → isChar v ≡ true → isScalar v ≡ true
 char-scalar v e =
     elim (decLt v 0xD800) [
-      | yes h ↦ sym (range-low _ _ _ v 0xD7FF 0xD800 refl h refl)
+      | yes h ↦ scalar-low v h
       | no h ↦ elim (decLt v 0xE000) [
         | yes k ↦ clash (isChar v) e (gap-char v (omega arith) k)
         | no k ↦ elim (decLt v past) [
-          | yes l ↦ sym (range-over _ _ _ v 0 0xD7FF 0xD800 refl (omega arith) (range-in _ _ _ v 0xE000 0x10FFFF 0x110000 refl (omega arith) l refl))
+          | yes l ↦ scalar-high v (omega arith) l
           | no l ↦ clash (isChar v) e (past-char v (omega arith))
         ]
       ]
