@@ -28,12 +28,14 @@ use std::path::PathBuf;
 use std::process::ExitCode;
 
 const USAGE: &str =
-    "usage: compare [--columns | --attributes | --escape | --swap] [--quick | --faults | --first | --record FOLDER] [--seed N] [FILE..]";
+    "usage: compare [--reader | --columns | --attributes | --escape | --swap] [--quick | --faults | --first | --record FOLDER] \
+                     [--seed N] [FILE..]";
 
 /// What is compared.
 #[derive(Clone, Copy, PartialEq, Eq)]
 enum Part {
     All,
+    Reader,
     Columns,
     Attributes,
     Escape,
@@ -68,6 +70,7 @@ fn wish() -> Option<Wish> {
         match argument.to_str().unwrap_or_default() {
             "--quick" => wish.amount = Amount::Quick,
             "--seed" => wish.seed = arguments.next()?.to_str()?.parse().ok()?,
+            "--reader" => wish.part = Part::Reader,
             "--columns" => wish.part = Part::Columns,
             "--attributes" => wish.part = Part::Attributes,
             "--escape" => wish.part = Part::Escape,
@@ -94,7 +97,7 @@ fn main() -> ExitCode {
         return ExitCode::SUCCESS;
     }
     if wish.faults {
-        let readers = wish.part != Part::All || faults::run(wish.seed);
+        let readers = !wish.part.has(Part::Reader) || faults::run(wish.seed);
         let columns = !wish.part.has(Part::Columns) || columns::faults(wish.seed);
         let attributes = !wish.part.has(Part::Attributes) || attributes::faults(wish.seed);
         let escape = !wish.part.has(Part::Escape) || escape::faults(wish.seed);
@@ -120,7 +123,7 @@ fn main() -> ExitCode {
     compare(wish)
 }
 
-/// The reader, the column reader, attributes, references and the program over both, or one of the last four alone.
+/// The reader, the column reader, attributes, references and the program over both, or one of these alone.
 fn compare(wish: Wish) -> ExitCode {
     if let Some(file) = wish.files.iter().find(|file| !file.is_file() || std::fs::File::open(file).is_err()) {
         eprintln!("compare: cannot read {}", file.display());
@@ -135,7 +138,7 @@ fn compare(wish: Wish) -> ExitCode {
         println!("compare: the crate's scanners do not do what is listed: {refuted:?}");
         return ExitCode::FAILURE;
     }
-    let alike = wish.part != Part::All || readers(&wish);
+    let alike = !wish.part.has(Part::Reader) || readers(&wish);
     let columns = !wish.part.has(Part::Columns) || columns::compare(wish.amount, wish.seed, wish.files.clone());
     let attributes = !wish.part.has(Part::Attributes) || attributes::compare(wish.amount, wish.seed, wish.files.clone());
     let escape = !wish.part.has(Part::Escape) || escape::compare(wish.amount, wish.seed, wish.files.clone());
