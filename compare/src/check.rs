@@ -1,5 +1,6 @@
-//! Runs one case on both sides and compares them after every call, in every number and every slot that was lent.
+//! Runs one case on both sides and compares them after every call, in every number and every slot that was lent. What ours answers is laid out besides, by itself.
 
+use crate::layout::Layout;
 use crate::listed;
 use crate::ours::*;
 use crate::run::Runs;
@@ -41,7 +42,7 @@ pub struct Difference {
 pub const PANIC: Difference = Difference { call: 0, fields: 0 };
 
 /// Names of what can differ: the slots of an answer, then those of a state, then the rest.
-pub const FIELDS: [&str; 29] = [
+pub const FIELDS: [&str; 32] = [
     "kind",
     "number",
     "place",
@@ -71,6 +72,9 @@ pub const FIELDS: [&str; 29] = [
     "part handed back",
     "alike, where a difference is listed",
     "bytes that are well formed",
+    "layout: a piece out of order, not up to the position, or not empty",
+    "layout: a byte dropped",
+    "layout: a byte not in exactly one part",
 ];
 const STATE_BITS: usize = ANSWER_SLOTS;
 const RETURNED: u32 = 1 << 18;
@@ -84,6 +88,10 @@ const MAKING: u32 = 1 << 25;
 const PART: u32 = 1 << 26;
 const LISTED: u32 = 1 << 27;
 const GOOD: u32 = 1 << 28;
+pub const ORDER: u32 = 1 << 29;
+pub const DROPPED: u32 = 1 << 30;
+pub const COUNT: u32 = 1 << 31;
+pub const LAYOUT: u32 = ORDER | DROPPED | COUNT;
 
 /// What the crate's side was before a call.
 pub struct Before {
@@ -118,6 +126,7 @@ pub struct Bench<E> {
     most: usize,
     /// What the slot of the mark has to be.
     mark: usize,
+    layout: Layout,
     state: [usize; STATE_SLOTS + MARGIN],
     answer: [usize; ANSWER_SLOTS + MARGIN],
 }
@@ -133,6 +142,7 @@ impl<E: Engine> Runs for Bench<E> {
     fn run(&mut self, case: &Case, tally: &mut Tally) -> Result<bool, Difference> {
         tally.inputs += 1;
         let result = self.steps(case, tally);
+        tally.laid.failed += result.is_err_and(|difference| difference.fields & LAYOUT != 0) as u64;
         self.wipe(case, result.is_err());
         result
     }
@@ -160,6 +170,7 @@ impl<E: Engine> Bench<E> {
             shadow: Vec::new(),
             most: 0,
             mark: 0,
+            layout: Layout::default(),
             state: [CANARY; STATE_SLOTS + MARGIN],
             answer: [CANARY; ANSWER_SLOTS + MARGIN],
         }
@@ -178,7 +189,7 @@ impl<E: Engine> Bench<E> {
         let mut call = 0;
         while eofs < 2 {
             call += 1;
-            let returned = self.read(case);
+            let returned = self.read(case, call)?;
             let number = self.answer[NUMBER];
             if number == DOCTYPE || number == STACK_FULL {
                 return self.leave(case, &mut theirs, call, returned, tally);
@@ -201,7 +212,7 @@ impl<E: Engine> Bench<E> {
             }
             eofs += ended as usize;
         }
-        self.whole_stack(case, call)?;
+        self.over(case, call, tally)?;
         Ok(theirs.depth() > 0)
     }
 
@@ -240,20 +251,26 @@ impl<E: Engine> Bench<E> {
             return Err(Difference { call: 0, fields: MAKING });
         }
         self.mark = case.mark;
+        self.layout.begin(case.document);
         if number == 0 {
             self.state[MARK] = case.mark;
         }
         Ok(number == 0)
     }
 
-    fn read(&mut self, case: &Case) -> usize {
+    /// Reads on. What is answered has to follow what was, before the crate is asked.
+    fn read(&mut self, case: &Case, call: usize) -> Result<usize, Difference> {
         self.answer[..ANSWER_SLOTS].fill(CANARY);
-        self.engine.read(
+        let returned = self.engine.read(
             case.document,
             &mut self.stack[..case.slots],
             &mut self.state[..state_slots(case)],
             &mut self.answer[..ANSWER_SLOTS + state_slots(case) - STATE_SLOTS],
-        )
+        );
+        match self.layout.told(case, &self.answer, self.state[POSITION]) {
+            0 => Ok(returned),
+            fields => Err(Difference { call, fields }),
+        }
     }
 
     fn lend(&mut self, slots: usize) {
@@ -375,12 +392,17 @@ impl<E: Engine> Bench<E> {
         same(0, 4) && same(low, (2 * depth + 6).min(end)) && same(end - MARGIN - 4, end)
     }
 
-    fn whole_stack(&self, case: &Case, call: usize) -> Result<(), Difference> {
+    /// After the last call: the whole stack is what it has to be, and each byte of the document is in one part of the layout or in none, as it has to be.
+    fn over(&mut self, case: &Case, call: usize, tally: &mut Tally) -> Result<(), Difference> {
         let end = case.slots + MARGIN;
+        let mut fields = self.layout.over(case, self.state[POSITION], &mut tally.laid);
         if self.stack[..end] != self.shadow[..end] {
-            return Err(Difference { call, fields: STACK });
+            fields |= STACK;
         }
-        Ok(())
+        match fields {
+            0 => Ok(()),
+            _ => Err(Difference { call, fields }),
+        }
     }
 
     /// The open names of the crate are the spans on our stack, in order; of many names only the innermost, if not all are asked for.
@@ -432,26 +454,26 @@ impl<E: Engine> Bench<E> {
             fields |= LEAVING;
         }
         if fields == 0 {
-            fields = self.stays(case, &state, start);
+            fields = self.stays(case, call, &state, start)?;
         }
         if fields != 0 {
             return Err(Difference { call, fields });
         }
         tally.calls += 2;
         tally.left[number - DOCTYPE] += 1;
-        self.whole_stack(case, call)?;
+        self.over(case, call, tally)?;
         Ok(before.depth > 0)
     }
 
     /// After 14 and 15 ours answers Eof, with names open too, and changes nothing.
-    fn stays(&mut self, case: &Case, state: &[usize], at: usize) -> u32 {
-        let returned = self.read(case);
+    fn stays(&mut self, case: &Case, call: usize, state: &[usize], at: usize) -> Result<u32, Difference> {
+        let returned = self.read(case, call + 1)?;
         let wanted = [EOF, 0, 0, at, at, at, at, 0, 0, 0, 0, 0];
-        let fields = bits(&self.answer, &wanted, 0) | bits(&self.state, state, STATE_BITS) | self.margins();
+        let mut fields = bits(&self.answer, &wanted, 0) | bits(&self.state, state, STATE_BITS) | self.margins();
         if returned != 0 {
-            return fields | RETURNED;
+            fields |= RETURNED;
         }
-        fields
+        Ok(fields)
     }
 }
 

@@ -1,9 +1,10 @@
 //! Faults put between the archive and the comparison, each of which the comparison has to notice.
 
+mod layout;
 mod list;
 
 use crate::check::Bench;
-use crate::inputs::{self, Amount};
+use crate::inputs::{self, Amount, Family};
 use crate::ours::*;
 use crate::run::Worker;
 use std::sync::atomic::{AtomicUsize, Ordering::Relaxed};
@@ -158,14 +159,14 @@ impl Call<'_> {
 }
 
 /// The archive with a fault.
-struct Faulty {
-    fault: &'static Fault,
+struct Faulty<'f> {
+    fault: &'f Fault,
     last_place: usize,
     last_number: usize,
     eofs: usize,
 }
 
-impl Engine for Faulty {
+impl Engine for Faulty<'_> {
     fn make(&mut self, document: &[u8], settings: usize, state: &mut [usize]) -> usize {
         (self.last_place, self.last_number, self.eofs) = (0, 0, 0);
         let mut number = Archive.make(document, settings, state);
@@ -224,12 +225,23 @@ pub fn all_of<F: Sync>(faults: &[F], name: fn(&F) -> &'static str, notice: impl 
     noticed.into_inner().unwrap()
 }
 
-/// Tries every fault by the quick inputs: true if all are noticed.
+/// Runs jobs until a fault is noticed: after how many inputs, by which family, and what fails.
+fn notice(fault: &Fault, families: &[Family]) -> Option<(u64, &'static str, u32)> {
+    let mut worker = Worker::new(Bench::new(Faulty { fault, last_place: 0, last_number: 0, eofs: 0 }), true);
+    let (inputs, family) = worker.notice(families)?;
+    let fields = worker.found.first().map_or(0, |(_, difference)| difference.fields);
+    Some((inputs, family, fields))
+}
+
+/// Tries every fault by the quick inputs: true if all are noticed, and those of the layout by what it says of them.
 pub fn run(seed: u64) -> bool {
-    let faults: Vec<&'static Fault> = list::ALL.iter().copied().flatten().collect();
+    let faults: Vec<&Fault> = list::ALL.iter().copied().flatten().collect();
     let families = inputs::all(Amount::Quick, seed);
-    let faulty = |fault| Faulty { fault, last_place: 0, last_number: 0, eofs: 0 };
-    let noticed = all_of(&faults, |fault| fault.name, |&fault| Worker::new(Bench::new(faulty(fault)), true).notice(&families));
+    let plain = |(inputs, family, _)| (inputs, family);
+    let noticed = all_of(&faults, |fault| fault.name, |fault| notice(fault, &families).map(plain));
+    let by_layout = |laid: &layout::Laid| notice(&laid.fault, &families).filter(|noticed| noticed.2 == laid.fields).map(plain);
+    let told = all_of(layout::ALL, |laid| laid.fault.name, by_layout);
+    println!("layout: {told} of {} faults noticed by the layout alone", layout::ALL.len());
     println!("compare: {noticed} of {} faults noticed", faults.len());
-    noticed == faults.len()
+    noticed == faults.len() && told == layout::ALL.len()
 }

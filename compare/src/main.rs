@@ -11,6 +11,7 @@ mod contents;
 mod escape;
 mod faults;
 mod inputs;
+mod layout;
 mod listed;
 mod ours;
 mod record;
@@ -165,6 +166,7 @@ fn readers(wish: &Wish) -> bool {
     }
     let missing = if of_files { Vec::new() } else { all.missing(&summary::REFUSALS) };
     missing.iter().for_each(|what| println!("never seen: {what}"));
+    println!("{}", all.laid.line());
     println!("compare: {} inputs, {} calls, {} unlisted differences", all.inputs, all.calls, all.differences);
     all.differences == 0 && all.inputs > 0 && missing.is_empty()
 }

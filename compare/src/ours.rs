@@ -77,9 +77,17 @@ pub const STACK_FULL: usize = 15;
 pub const TOO_LONG: usize = 16;
 pub const UNCLOSED: usize = 18;
 
+/// The bytes that a document may begin with and that are in no piece.
+pub const ORDER_MARK: &[u8] = b"\xEF\xBB\xBF";
+
+/// Whether a refusal of this number ends a run.
+pub fn ends_run(number: usize) -> bool {
+    matches!(number, 1..=8 | ENCODING..=STACK_FULL)
+}
+
 /// Whether an answer of this kind and number turns a reader's mark on: Eof, 18 and the refusals that end a run.
 pub fn marks(kind: usize, number: usize) -> bool {
-    kind == EOF || matches!(number, 1..=8 | ENCODING..=STACK_FULL | UNCLOSED)
+    kind == EOF || ends_run(number) || number == UNCLOSED
 }
 
 /// How many names a stack holds.

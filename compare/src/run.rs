@@ -116,7 +116,7 @@ where
     }
 
     /// Runs jobs until a difference is found: after how many inputs, by which family.
-    pub fn notice(mut self, families: &[Family]) -> Option<(u64, &'static str)> {
+    pub fn notice(&mut self, families: &[Family]) -> Option<(u64, &'static str)> {
         for family in families {
             for job in 0..family.jobs {
                 if self.job(family, job).is_break() {

@@ -1,6 +1,6 @@
 //! Makes an input that shows a difference smaller, and prints it with what both sides say.
 
-use crate::check::{Bench, Case, Difference, FIELDS};
+use crate::check::{Bench, Case, Difference, FIELDS, LAYOUT};
 use crate::ours::*;
 use crate::run::Runs;
 use crate::summary::Tally;
@@ -112,5 +112,10 @@ pub fn show<E: Engine>(engine: &mut E, kept: &Kept, difference: Difference) {
     }
     for line in trace::their_lines(&case).take(difference.call + 1) {
         println!("    the crate  {line}");
+    }
+    if difference.fields & LAYOUT != 0 {
+        for line in trace::our_pieces(engine, &case, difference.call) {
+            println!("    piece      {line}");
+        }
     }
 }

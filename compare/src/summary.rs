@@ -1,5 +1,6 @@
 //! Counts of what was compared, and the summary.
 
+use crate::layout::Laid;
 use crate::listed;
 use crate::ours::*;
 use crate::run::Counts;
@@ -19,12 +20,22 @@ pub struct Tally {
     pub listed: [u64; listed::COUNT],
     /// Cases that left the domain by 14, 15 and 16.
     pub left: [u64; 3],
+    pub laid: Laid,
     pub differences: u64,
 }
 
 impl Default for Tally {
     fn default() -> Self {
-        Self { inputs: 0, calls: 0, kinds: [0; KINDS.len()], numbers: [0; 100], listed: [0; listed::COUNT], left: [0; 3], differences: 0 }
+        Self {
+            inputs: 0,
+            calls: 0,
+            kinds: [0; KINDS.len()],
+            numbers: [0; 100],
+            listed: [0; listed::COUNT],
+            left: [0; 3],
+            laid: Laid::default(),
+            differences: 0,
+        }
     }
 }
 
@@ -37,6 +48,7 @@ impl Counts for Tally {
         pairs(&mut self.numbers, &other.numbers);
         pairs(&mut self.listed, &other.listed);
         pairs(&mut self.left, &other.left);
+        self.laid.add(&other.laid);
     }
 
     fn differences(&mut self) -> &mut u64 {
@@ -71,6 +83,7 @@ impl Tally {
                 missing.push(format!("listed difference {tag}"));
             }
         }
+        missing.extend(self.laid.missing());
         missing
     }
 

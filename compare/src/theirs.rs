@@ -6,8 +6,6 @@ use quick_xml::errors::{Error, IllFormedError, SyntaxError};
 use quick_xml::events::Event;
 use quick_xml::reader::{Config, Reader};
 
-const ORDER_MARK: &[u8] = b"\xEF\xBB\xBF";
-
 /// What stands in the crate for 14, which is ours alone: a DOCTYPE's event or error.
 pub const THEIR_DOCTYPE: usize = DOCTYPE;
 /// An error that the reader is not known to give.

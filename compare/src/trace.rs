@@ -85,6 +85,16 @@ pub fn our_line(state: &[usize], answer: &[usize], document: &[u8]) -> String {
 
 /// The lines of our side, up to Eof or so many.
 pub fn our_lines<E: Engine>(engine: &mut E, case: &Case, most: usize) -> Vec<String> {
+    answers(engine, case, most, our_line)
+}
+
+/// The pieces of our side, and the positions that are left, up to Eof or so many.
+pub fn our_pieces<E: Engine>(engine: &mut E, case: &Case, most: usize) -> Vec<String> {
+    answers(engine, case, most, |state, answer, _| format!("{}..{}, position {}", answer[PIECE_FROM], answer[PIECE_TO], state[POSITION]))
+}
+
+/// A line for each answer of our side, by its state, its answer and the document.
+fn answers<E: Engine>(engine: &mut E, case: &Case, most: usize, line: fn(&[usize], &[usize], &[u8]) -> String) -> Vec<String> {
     let mut state = [0; STATE_SLOTS];
     let mut answer = [0; ANSWER_SLOTS];
     let mut stack = vec![CANARY; case.slots];
@@ -96,7 +106,7 @@ pub fn our_lines<E: Engine>(engine: &mut E, case: &Case, most: usize) -> Vec<Str
     let mut lines = Vec::new();
     while lines.len() < most && answer[KIND] != EOF {
         engine.read(case.document, &mut stack, &mut state, &mut answer);
-        lines.push(our_line(&state, &answer, case.document));
+        lines.push(line(&state, &answer, case.document));
     }
     lines
 }
