@@ -3,6 +3,7 @@
 //! each; or `--references`: then the bytes of its character stand behind a reference, in hexadecimal.
 
 mod input;
+mod words;
 
 use sporebasket::errors::{Error, Refused};
 use sporebasket::events::Event;
@@ -12,6 +13,7 @@ use sporebasket::Reader;
 use std::io::{self, Write};
 use std::ops::Range;
 use std::{env, process};
+use words::word;
 
 /// What the command line asks for besides the events.
 #[derive(Clone, Copy, PartialEq)]
@@ -35,22 +37,6 @@ fn asked() -> io::Result<(Asked, Vec<u8>)> {
         words.next();
     }
     Ok((asked, input::document(words.next())?))
-}
-
-fn word(event: &Event) -> &'static str {
-    match event {
-        Event::Start(_) => "start",
-        Event::End(_) => "end",
-        Event::Empty(_) => "empty",
-        Event::Text(_) => "text",
-        Event::GeneralRef(_) => "ref",
-        Event::Comment(_) => "comment",
-        Event::CData(_) => "cdata",
-        Event::Decl(_) => "decl",
-        Event::PI(_) => "pi",
-        Event::DocType(_) => "doctype",
-        Event::Eof => "eof",
-    }
 }
 
 /// How many bytes of its content are an event's name.

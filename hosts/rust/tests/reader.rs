@@ -2,7 +2,7 @@
 
 mod common;
 
-use common::Numbers;
+use common::{Numbers, LETTERS, MARKUP};
 use sporebasket::encoding::EncodingError;
 use sporebasket::errors::{Error, Refused};
 use sporebasket::events::Event;
@@ -175,39 +175,6 @@ fn shown_for_debugging() {
     assert!(format!("{reader:?}").starts_with("Reader { phase: InsideText, position: 3, depth: 1, config: Config { "));
 }
 
-const PIECES: &[&[u8]] = &[
-    b"<a>",
-    b"</a>",
-    b"<b c='>'>",
-    b"</b >",
-    b"<d/>",
-    b"text",
-    b" ",
-    b"\n",
-    b"&amp;",
-    b"&",
-    b";",
-    b"<",
-    b">",
-    b"/",
-    b"'",
-    b"\"",
-    b"<!--x-->",
-    b"<!--x--y-->",
-    b"<![CDATA[x]]>",
-    b"<?xml v?>",
-    b"<?p?>",
-    b"\xC3\xA9",
-    b"\xEF\xBB\xBF",
-    b"\xFF",
-    b"<!",
-    b"-->",
-    b"?>",
-    b"=",
-    b"!",
-    b"</",
-];
-
 /// Whether the end is told by this answer: end of file, its refusal, or one that ends the run.
 fn tells_the_end(answer: &Result<Event, Error>) -> bool {
     match answer {
@@ -294,9 +261,9 @@ fn any_document_with_any_settings() {
     for turn in 0..20_000 {
         let count = numbers.below(20);
         let document: Vec<u8> = (0..count)
-            .flat_map(|_| PIECES[numbers.below(PIECES.len())].iter().copied())
+            .flat_map(|_| MARKUP[numbers.below(MARKUP.len())].iter().copied())
             .collect();
-        let letters: String = "aucnxmseo".chars().filter(|_| numbers.below(3) == 0).collect();
+        let letters: String = LETTERS.chars().filter(|_| numbers.below(3) == 0).collect();
         let names = if turn % 4 == 0 { numbers.below(3) } else { 64 };
         hold_to_the_theorems(&document, &letters, names);
         refused += hold_to_the_setting_off(&document, &letters, names);

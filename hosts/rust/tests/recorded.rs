@@ -3,15 +3,13 @@
 
 mod common;
 
-use common::{told, PHASES};
+use common::{letters, told, PHASES};
 use sporebasket::ext::ReaderExt;
 use sporebasket::lent;
 use sporebasket::reader::{Config, Reader};
 use std::fs;
 
 const RECORDED: &str = concat!(env!("CARGO_MANIFEST_DIR"), "/../../crates/cases/stdout");
-
-const LETTERS: [char; 9] = ['a', 'u', 'c', 'n', 'x', 'm', 's', 'e', 'o'];
 
 /// The cases of this word: the words of the line, and the lines below it.
 fn cases(word: &str) -> Vec<(String, Vec<String>)> {
@@ -61,16 +59,6 @@ fn settings(letters: &str) -> usize {
     let mut config = Config::default();
     common::set(&mut config, letters);
     common::settings(&config)
-}
-
-/// The letters that turn the defaults to these settings.
-fn letters(settings: usize) -> String {
-    let turned = settings ^ lent::default_settings();
-    let on = |i: &usize| turned >> i & 1 == 1;
-    match turned {
-        0 => "-".into(),
-        _ => (0..LETTERS.len()).filter(on).map(|i| LETTERS[i]).collect(),
-    }
 }
 
 /// Where a state stands: the phase, with `!` before it where the mark is on, the position and the depth.

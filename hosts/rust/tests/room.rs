@@ -3,7 +3,7 @@
 
 mod common;
 
-use common::{Numbers, PHASES};
+use common::{Numbers, LETTERS, PHASES};
 use sporebasket::errors::{Error, Refused};
 use sporebasket::ext::ReaderExt;
 use sporebasket::lent::{self, LONGEST, MOST_NAMES};
@@ -208,7 +208,7 @@ fn any_document_with_settings_that_change() {
         let mut ends = 0;
         while ends < 4 {
             if numbers.below(8) == 0 {
-                let letters: String = "aucnxmseo".chars().filter(|_| numbers.below(4) == 0).collect();
+                let letters: String = LETTERS.chars().filter(|_| numbers.below(4) == 0).collect();
                 common::set(both.0.config_mut(), &letters);
             }
             if numbers.below(16) == 0 {

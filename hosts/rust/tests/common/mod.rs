@@ -2,31 +2,20 @@
 //! depth and the open names after it.
 #![allow(dead_code)]
 
+#[path = "../../examples/words/mod.rs"]
+mod words;
+
 use sporebasket::events::Event;
 use sporebasket::ext::{ErrorExt, EventExt, Phase, ReaderExt};
+use sporebasket::lent;
 use sporebasket::reader::{Config, Reader};
 use std::ops::Range;
+pub use words::word;
 
 pub const PHASES: [&str; 6] = ["init", "text", "markup", "ref", "empty", "done"];
 const KINDS: [&str; 10] = [
     "start", "end", "empty", "text", "ref", "comment", "cdata", "decl", "pi", "eof",
 ];
-
-pub fn word(event: &Event) -> &'static str {
-    match event {
-        Event::Start(_) => "start",
-        Event::End(_) => "end",
-        Event::Empty(_) => "empty",
-        Event::Text(_) => "text",
-        Event::GeneralRef(_) => "ref",
-        Event::Comment(_) => "comment",
-        Event::CData(_) => "cdata",
-        Event::Decl(_) => "decl",
-        Event::PI(_) => "pi",
-        Event::DocType(_) => "doctype",
-        Event::Eof => "eof",
-    }
-}
 
 /// How many bytes of its content are an event's name.
 fn name_len(event: &Event) -> usize {
@@ -133,6 +122,9 @@ pub fn run(reader: &mut Reader<&[u8]>) -> Vec<String> {
     panic!("no end of file by call number length + 2: {said:?}");
 }
 
+/// The letters of the settings, by their bits.
+pub const LETTERS: &str = "aucnxmseo";
+
 /// Turns a flag over for each letter, or sets two as the letter says.
 pub fn set(config: &mut Config, letters: &str) {
     for letter in letters.chars() {
@@ -151,6 +143,16 @@ pub fn set(config: &mut Config, letters: &str) {
             'K' | 'k' => config.enable_all_checks(letter == 'K'),
             other => panic!("no setting {other}"),
         }
+    }
+}
+
+/// The letters that turn the defaults to these settings.
+pub fn letters(settings: usize) -> String {
+    let turned = settings ^ lent::default_settings();
+    let on = |i: &usize| turned >> i & 1 == 1;
+    match turned {
+        0 => "-".into(),
+        _ => (0..LETTERS.len()).filter(on).map(|i| &LETTERS[i..=i]).collect(),
     }
 }
 
@@ -182,3 +184,37 @@ impl Numbers {
         (self.0 >> 33) as usize % bound
     }
 }
+
+/// Markup and parts of it, to make documents of.
+pub const MARKUP: &[&[u8]] = &[
+    b"<a>",
+    b"</a>",
+    b"<b c='>'>",
+    b"</b >",
+    b"<d/>",
+    b"text",
+    b" ",
+    b"\n",
+    b"&amp;",
+    b"&",
+    b";",
+    b"<",
+    b">",
+    b"/",
+    b"'",
+    b"\"",
+    b"<!--x-->",
+    b"<!--x--y-->",
+    b"<![CDATA[x]]>",
+    b"<?xml v?>",
+    b"<?p?>",
+    b"\xC3\xA9",
+    b"\xEF\xBB\xBF",
+    b"\xFF",
+    b"<!",
+    b"-->",
+    b"?>",
+    b"=",
+    b"!",
+    b"</",
+];
