@@ -192,7 +192,7 @@ impl Config {
     }
 
     /// The settings whose bits are set.
-    fn from_bits(bits: usize) -> Self {
+    pub(crate) fn from_bits(bits: usize) -> Self {
         let on = |place: u32| bits >> place & 1 == 1;
         Config {
             allow_dangling_amp: on(0),

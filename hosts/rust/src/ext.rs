@@ -14,6 +14,8 @@
 //! assert_eq!(reader.piece(), 8..12);
 //! # Ok::<(), sporebasket::Error>(())
 //! ```
+//!
+//! [`Layout`] is an account of a run: that no byte of a page is set twice, and none dropped.
 
 use crate::errors::{Error, IllFormedError, Refused, SyntaxError};
 use crate::events::attributes::{AttrError, AttrRefused};
@@ -23,6 +25,8 @@ use std::borrow::Cow;
 use std::error;
 use std::fmt;
 use std::ops::Range;
+
+pub use crate::layout::{Layout, LayoutError, Parts};
 
 /// The traits are for the types here alone, so that each may have more to tell.
 mod sealed {

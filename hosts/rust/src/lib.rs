@@ -32,7 +32,7 @@
 //! [`attributes`](events::attributes) reads those of a tag, and refuses by the numbers 19 to 24. References are handed over as they stand; [`mod@escape`] replaces them, and refuses by
 //! 25 and 26.
 //! With [`check_open_names`](reader::Config::check_open_names) a document that ends while names are open is refused: where
-//! [`Eof`](events::Event::Eof) comes and no error before it, every element was closed.
+//! [`Eof`](events::Event::Eof) comes and no error before it, every element was closed. [`Layout`](ext::Layout) counts that each byte of the document is in exactly one part.
 //!
 //! [`mod@column`] reads the times of a timetable's column, which may run past midnight:
 //!
@@ -58,6 +58,7 @@ pub mod errors;
 pub mod escape;
 pub mod events;
 pub mod ext;
+mod layout;
 pub mod lent;
 pub mod name;
 mod raw;

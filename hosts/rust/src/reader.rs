@@ -149,6 +149,11 @@ impl<R> Reader<R> {
         self.rest
     }
 
+    /// The last answer, and the state that its call left.
+    pub(crate) const fn last(&self) -> (&[usize; ANSWER_SLOTS], &[usize; STATE_SLOTS]) {
+        (&self.answer, &self.state)
+    }
+
     /// A span of the last answer.
     #[inline]
     fn span(&self, slot: usize) -> (usize, usize) {
