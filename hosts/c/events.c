@@ -7,15 +7,11 @@
 #include "sporebasket.h"
 #include "lent.h"
 #include "whole.h"
+#include "words.h"
 
 #include <stdio.h>
 #include <stdlib.h>
 #include <string.h>
-
-/* The words of the kinds, by their numbers. */
-static const char *const words[] = {
-    "refused", "start", "end", "empty", "text", "ref", "comment", "cdata", "decl", "pi", "eof",
-};
 
 /* An event has its piece, its content and the length of its name; a refusal its number and its place. */
 static void say(const size_t *answer)

@@ -48,7 +48,7 @@ static size_t read_on(const uint8_t *document, size_t length, struct lent *lent)
 }
 
 /* Whether the answer is an opening tag or an empty element, which may have attributes. */
-static int is_tag(const size_t *answer)
+static inline int is_tag(const size_t *answer)
 {
     return answer[SPOREBASKET_ANSWER_KIND] == SPOREBASKET_START || answer[SPOREBASKET_ANSWER_KIND] == SPOREBASKET_EMPTY;
 }

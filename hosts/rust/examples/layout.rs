@@ -149,8 +149,9 @@ fn main() {
     for file in &files {
         let name = file.map_or_else(String::new, |file| format!("{}: ", file.to_string_lossy()));
         let shown = if files.len() > 1 { name.as_str() } else { "" };
-        let done = lay_file(*file, shown, &asked, &mut out).and_then(|()| Ok(out.flush()?));
-        if let Err(failure) = done {
+        let laid = lay_file(*file, shown, &asked, &mut out);
+        let written = out.flush().map_err(Failure::Write);
+        if let Err(failure) = written.and(laid) {
             eprintln!("layout: {name}{failure}");
             code = match failure {
                 Failure::Layout(_) => 1,

@@ -348,6 +348,7 @@ const KIND: usize = 0;
 const PIECE: usize = 3;
 const PIECE_END: usize = 4;
 const POSITION: usize = 1;
+const LENGTH: usize = 3;
 const SETTINGS: usize = 4;
 const EOF: usize = 10;
 const TRIM: usize = 64;
@@ -384,6 +385,14 @@ fn wrong(document: &[u8], settings: usize, call: usize, change: impl Fn(&mut Tol
     assert_eq!(account(document, &told), Ok(()));
     change(&mut told[call]);
     account(document, &told)
+}
+
+/// Tells end of file at this place.
+fn end_of_file((answer, state): &mut Told, place: usize) {
+    *answer = [0; ANSWER_SLOTS];
+    answer[KIND] = EOF;
+    answer[PIECE..=PIECE_END].fill(place);
+    state[POSITION] = place;
 }
 
 #[test]
@@ -486,12 +495,7 @@ fn a_part_that_does_not_lie_in_the_document_is_noticed() {
 #[test]
 fn an_end_of_file_before_the_end_is_noticed() {
     for document in [&b"<a/>b"[..], b"<a/> ", b"<a/></b>", b"<a/><"] {
-        let said = wrong(document, TRIM, 1, |(answer, state)| {
-            *answer = [0; ANSWER_SLOTS];
-            answer[KIND] = EOF;
-            answer[PIECE..=PIECE_END].fill(4);
-            state[POSITION] = 4;
-        });
+        let said = wrong(document, TRIM, 1, |told| end_of_file(told, 4));
         let count = LayoutError::Count {
             place: 4,
             parts: 0,
@@ -503,19 +507,25 @@ fn an_end_of_file_before_the_end_is_noticed() {
 
 #[test]
 fn bytes_set_behind_the_refusal_that_ended_the_run_are_noticed() {
-    for (document, settings) in [(&b"a<!x>"[..], 0), (b"a<!x>", TRIM), (b"a<", 0)] {
-        let end = document.len();
-        let said = wrong(document, settings, 2, |(answer, state)| {
-            answer[PIECE_END] = end;
-            state[POSITION] = end;
-        });
-        let count = LayoutError::Count {
-            place: 1,
-            parts: 1,
-            wanted: 0,
-        };
-        assert_eq!(said, Err(count), "{document:?}");
+    let count = LayoutError::Count {
+        place: 1,
+        parts: 1,
+        wanted: 0,
+    };
+    let all_the_rest = |(answer, state): &mut Told| {
+        answer[PIECE_END] = state[LENGTH];
+        state[POSITION] = state[LENGTH];
+    };
+    for document in [&b"a<!x>"[..], b"a<"] {
+        assert_eq!(wrong(document, 0, 2, all_the_rest), Err(count), "{document:?}");
     }
+    // by another refusal that ends it
+    let document = b"a<!x>";
+    let mut told = run(document, 0);
+    told.insert(2, told[1]);
+    all_the_rest(&mut told[2]);
+    end_of_file(&mut told[3], document.len());
+    assert_eq!(account(document, &told), Err(count));
 }
 
 #[test]
