@@ -175,6 +175,12 @@ module _ (doc stack : List ℕ) (c : Config) (short : length doc ≤ longest) wh
   rank-done position Phase.InsideEmpty h = absurd (omega arith)
   rank-done position Phase.Done h = refl
 
+  -- THEOREM: a reader that was called is not in Init
+  pub no-init-after-a-call : (n : ℕ) → after (suc n) .reader .phase ≡ Phase.Init → ⊥
+  no-init-after-a-call n e =
+      let all : rankAt doc (after (suc n) .reader .position .0) (after (suc n) .reader .phase) ≡ length doc + 1 = ap (rankAt doc (after (suc n) .reader .position .0)) e in
+      omega (arith, due-falls (suc n))
+
   -- THEOREM: after length + 1 calls the reader is done
   pub done-after-length-and-one : after (length doc + 1) .reader .phase ≡ Phase.Done
   done-after-length-and-one =
@@ -218,7 +224,7 @@ module _ (doc stack : List ℕ) (c : Config) (short : length doc ≤ longest) wh
       unfolding run call written ended told
       rest-stack = ap (λ (s : Step). written (after n .stack) (after n .reader .depth .0) (s .answer)) rests
 
-  stays : (n : ℕ) → after n .reader .phase ≡ Phase.Done → after n .reader .mark ≡ true → (k : ℕ) → AtRest doc (after n) (after (k + n))
+  pub stays : (n : ℕ) → after n .reader .phase ≡ Phase.Done → after n .reader .mark ≡ true → (k : ℕ) → AtRest doc (after n) (after (k + n))
   stays n done on zero = rw (zero-add n) (record { says = rest-says n done on; reader = refl; stack = refl })
   stays n done on (suc k) = rw (suc-add k n) (onward (stays n done on k))
     where

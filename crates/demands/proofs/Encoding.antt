@@ -21,10 +21,12 @@ use Rattle.state.specs.Values.{valuesOf}
 use Rattle.reader.specs.Names.{bytes}
 use Rattle.reader.specs.Step.{step, FirstIll}
 use Rattle.reader.proofs.Outside.{step-turn}
+use Rattle.reader.proofs.Passed.{passes-octets}
+use Rattle.reader.proofs.States.{sound-true}
 use Rattle.reader.proofs.Rooms.{any-state}
 use Rattle.demands.specs.Run.{World, said, call, run}
 use Rattle.demands.specs.Answers.{AnEvent, isEncoding}
-use Rattle.demands.proofs.Demand1.{turn, done-stays}
+use Rattle.demands.proofs.Demand1.{turn, done-stays, every-state-is-sound}
 
 -- ---- any document, any lent stack, any state
 
@@ -62,7 +64,8 @@ module _ (doc stack : List ℕ) (c : Config) (short : length doc ≤ longest) wh
     up-to-the-piece : Octets (part doc 0 (valuesOf (said doc (after n)) .piece .from))
     up-to-the-piece =
         let t = turn doc stack c short n in
-        octets-parts doc 0 (after n .reader .position .0) _ (omega arith) (t .after) (omega (arith, t .ordered, t .within)) before (t .encoding .passed)
+        octets-parts doc 0 (after n .reader .position .0) _ (omega arith) (t .after) (omega (arith, t .ordered, t .within)) before
+        (passes-octets doc (after n .reader) _ (sound-true doc _ _ (every-state-is-sound doc stack c short n) .in-place) (omega (arith, t .ordered, t .within)) (t .passed))
 
     -- and with it
     up-to-its-end : Octets (bytes doc (valuesOf (said doc (after n)) .piece)) → Octets (part doc 0 (after (suc n) .reader .position .0))

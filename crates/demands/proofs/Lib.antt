@@ -7,6 +7,7 @@ pub mod Encoding
 pub mod Growing
 pub mod Held
 pub mod Joined
+pub mod Laid
 pub mod Longer
 pub mod OtherSettings
 pub mod Pieces

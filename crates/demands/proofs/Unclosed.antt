@@ -47,7 +47,7 @@ no-call-turns-the-mark-off doc stack r on =
 -- ---- a run
 
 -- where neither of two is so the second is not
-nor-second : (t u : Bool) → pick t true u ≡ false → u ≡ false
+pub nor-second : (t u : Bool) → pick t true u ≡ false → u ≡ false
 nor-second true u e = clash true refl e
 nor-second false u e = e
 
@@ -185,7 +185,7 @@ module _ (doc stack : List ℕ) (c : Config) (short : length doc ≤ longest) wh
       by false false false further e u s = further e u s
 
   -- after an Eof the reader is done, and its mark is on
-  after-eof : (n : ℕ) → oneIs isEof (answers n) ≡ true → (after n .reader .phase ≡ Phase.Done) × (after n .reader .mark ≡ true)
+  pub after-eof : (n : ℕ) → oneIs isEof (answers n) ≡ true → (after n .reader .phase ≡ Phase.Done) × (after n .reader .mark ≡ true)
   unfolding run call oneIs
   after-eof zero e = clash false e refl
   after-eof (suc n) e =

@@ -3,6 +3,7 @@ pub mod Run
 pub mod Calls
 pub mod Eight
 pub mod Growing
+pub mod Laid
 pub mod Open
 pub mod Openings
 pub mod Table

@@ -49,17 +49,17 @@ fewest Shape.QuestionMark = 1
 fewest Shape.End = 1
 fewest Shape.Start = 2
 
--- markup begins with `<`
-abbrev pub Opens : List ℕ → ℕ → Shape → Type 0
-Opens doc from Shape.Text = Unit {0}
-Opens doc from Shape.LastText = Unit {0}
-Opens doc from Shape.GeneralRef = Unit {0}
-Opens doc from Shape.Dangling = Unit {0}
-Opens doc from Shape.Comment = getD doc from 0 ≡ lt
-Opens doc from Shape.CData = getD doc from 0 ≡ lt
-Opens doc from Shape.QuestionMark = getD doc from 0 ≡ lt
-Opens doc from Shape.End = getD doc from 0 ≡ lt
-Opens doc from Shape.Start = getD doc from 0 ≡ lt
+-- markup begins with `<`, and the last text ends with the document
+abbrev pub Edges : List ℕ → ℕ → ℕ → Shape → Type 0
+Edges doc from to Shape.Text = Unit {0}
+Edges doc from to Shape.LastText = to ≡ length doc
+Edges doc from to Shape.GeneralRef = Unit {0}
+Edges doc from to Shape.Dangling = Unit {0}
+Edges doc from to Shape.Comment = getD doc from 0 ≡ lt
+Edges doc from to Shape.CData = getD doc from 0 ≡ lt
+Edges doc from to Shape.QuestionMark = getD doc from 0 ≡ lt
+Edges doc from to Shape.End = getD doc from 0 ≡ lt
+Edges doc from to Shape.Start = getD doc from 0 ≡ lt
 
 -- a phase that comes after a piece may stand where the piece ends
 abbrev pub Lands : List ℕ → ℕ → Phase → Type 0
@@ -68,7 +68,7 @@ Lands doc to Phase.InsideText = Unit {0}
 Lands doc to Phase.InsideMarkup = getD doc to 0 ≡ lt
 Lands doc to Phase.InsideRef = getD doc to 0 ≡ amp
 Lands doc to Phase.InsideEmpty = ⊥
-Lands doc to Phase.Done = Unit {0}
+Lands doc to Phase.Done = to ≡ length doc
 
 -- a number of a refusal that a call gives and that says nothing of names: neither 10, 11 nor 16, 17
 abbrev pub Plain : ℕ → Type 0
@@ -92,7 +92,7 @@ pub record Lies (doc : List ℕ) (from : ℕ) (s : Span) : Type 0 where
 pub record CutOff (doc : List ℕ) (from : ℕ) (p : Piece) : Type 0 where
   pub lies : Lies doc from (p .span)
   pub moves : from + fewest (p .shape) ≤ p .span .to
-  pub opens : Opens doc from (p .shape)
+  pub edges : Edges doc from (p .span .to) (p .shape)
   pub lands : Lands doc (p .span .to) (p .next)
   pub border : Border doc (p .span .to)
 
@@ -150,9 +150,9 @@ module _ (doc : List ℕ) (from : ℕ) where
   abbrev Here : Cut → Type 0
   Here = CutAt doc from
 
-  whole-cut : (shape : Shape) (to : ℕ) (next : Phase) → from ≤ to → to ≤ length doc → from + fewest shape ≤ to → Opens doc from shape → Lands doc to next → Border doc to → Here (whole shape from to next)
+  whole-cut : (shape : Shape) (to : ℕ) (next : Phase) → from ≤ to → to ≤ length doc → from + fewest shape ≤ to → Edges doc from to shape → Lands doc to next → Border doc to → Here (whole shape from to next)
   unfolding whole
-  whole-cut shape to next h k m o l b = record { lies = record { starts = refl; ends = h; within = k }; moves = m; opens = o; lands = l; border = b }
+  whole-cut shape to next h k m o l b = record { lies = record { starts = refl; ends = h; within = k }; moves = m; edges = o; lands = l; border = b }
 
   stop-cut : (error : Error) (left : ℕ) → from ≤ left → left ≤ length doc → StopError error → Here (stop error from left)
   unfolding stop
@@ -166,7 +166,7 @@ module _ (doc : List ℕ) (from : ℕ) where
         (λ p e. let t = found-has FirstFound.At _ _ (text-gives doc from) (textFound doc from) p refl e in
         let o : from ≡ p → ⊥ = λ z. here (rw z (t .among)) in
         whole-cut Shape.Text p (phaseAt doc p) (t .after) (omega (arith, t)) (omega (arith, t .after)) tt (phase-lands doc p (t .among)) (text-border doc p (t .among)))
-        (λ _. whole-cut Shape.LastText (length doc) Phase.Done h (omega arith) (omega arith) tt tt (last-border doc))
+        (λ _. whole-cut Shape.LastText (length doc) Phase.Done h (omega arith) (omega arith) refl refl (last-border doc))
       where
         here : Among textEnds (getD doc from 0) → ⊥
         here (inl e) = l e
@@ -182,7 +182,7 @@ module _ (doc : List ℕ) (from : ℕ) where
         (λ y. whole-cut Shape.GeneralRef (p + 1) Phase.InsideText (omega (arith, t)) (omega (arith, t)) (omega (arith, t)) tt tt (closed-border doc p (omega (arith, eqb-true (getD doc p 0) semicolon y))))
         (λ n. let among = not-first (eqb-false _ _ n) (t .among) in
         whole-cut Shape.Dangling p (phaseAt doc p) (omega (arith, t)) (omega (arith, t)) (omega (arith, t)) tt (phase-lands doc p among) (text-border doc p among)))
-        (λ _. whole-cut Shape.Dangling (length doc) Phase.Done h (omega arith) (omega arith) tt tt (last-border doc))
+        (λ _. whole-cut Shape.Dangling (length doc) Phase.Done h (omega arith) (omega arith) tt refl (last-border doc))
       where
         not-first : {b : ℕ} → (b ≡ semicolon → ⊥) → Among referenceEnds b → Among textEnds b
         not-first n (inl e) = absurd (n e)
@@ -190,7 +190,7 @@ module _ (doc : List ℕ) (from : ℕ) where
         not-first n (inr (inr (inl e))) = inl e
 
     -- a piece up to the `>` at p, which was found
-    closed : (shape : Shape) (p : ℕ) → from + fewest shape ≤ p + 1 → p < length doc → getD doc p 0 ≡ gt → Opens doc from shape
+    closed : (shape : Shape) (p : ℕ) → from + fewest shape ≤ p + 1 → p < length doc → getD doc p 0 ≡ gt → Edges doc from (p + 1) shape
         → Here (whole shape from (p + 1) Phase.InsideText)
     closed shape p m t g o = whole-cut shape (p + 1) Phase.InsideText (omega arith) (omega arith) m o tt (closed-border doc p (omega arith))
 
@@ -203,28 +203,28 @@ module _ (doc : List ℕ) (from : ℕ) where
     -- markup, at a `<`
     module _ (l : getD doc from 0 ≡ lt) where
       -- its `>` stands behind the `<`
-      tag-cut : (shape : Shape) → fewest shape ≤ 2 → Opens doc from shape → Here (cutTag doc from shape)
+      tag-cut : (shape : Shape) → fewest shape ≤ 2 → ((to : ℕ) → Edges doc from to shape) → Here (cutTag doc from shape)
       unfolding cutTag
       tag-cut shape f o =
           tag-cases Here (elementFound doc from) _ _
           (λ p e. let t = found-has TagFound.At _ _ (element-gives doc from) (elementFound doc from) p refl e in
           let apart : from ≡ p → ⊥ = λ z. omega (arith, t .closes, ap (λ (k : ℕ). getD doc k 0) z) in
-          closed shape p (omega (arith, t .after)) (t .within) (t .closes) o)
+          closed shape p (omega (arith, t .after)) (t .within) (t .closes) (o (p + 1)))
           (unclosed _ (unclosed-tag (elementFound doc from)))
 
-      marked-cut : (found : MarksFound) (shape : Shape) (error : Error) → fewest shape ≤ 1 → Opens doc from shape → StopError error
+      marked-cut : (found : MarksFound) (shape : Shape) (error : Error) → fewest shape ≤ 1 → ((to : ℕ) → Edges doc from to shape) → StopError error
           → ((p : ℕ) → found ≡ MarksFound.At p → (from ≤ p) × (p < length doc) × (getD doc p 0 ≡ gt)) → Here (cutMarked doc from found shape error)
       unfolding cutMarked
-      marked-cut found shape error f o q w = marks-cases Here found _ _ (λ p e. closed shape p (omega (arith, w p e .0)) (w p e .1) (w p e .2) o) (unclosed error q)
+      marked-cut found shape error f o q w = marks-cases Here found _ _ (λ p e. closed shape p (omega (arith, w p e .0)) (w p e .1) (w p e .2) (o (p + 1))) (unclosed error q)
 
       bang-cut : (third : ℕ) → Here (cutBang doc from third)
       unfolding cutBang
       bang-cut third =
           pick-cases Here (eqb third openBracket) _ _
-          (λ _. marked-cut (cdataFound doc from) Shape.CData Error.UnclosedCData (omega arith) l (omega arith, refl)
+          (λ _. marked-cut (cdataFound doc from) Shape.CData Error.UnclosedCData (omega arith) (λ _. l) (omega arith, refl)
           (λ p e. let t = found-has MarksFound.At _ _ (cdata-gives doc from) (cdataFound doc from) p refl e in omega (arith, t)))
           (λ _. pick-cases Here (eqb third hyphen) _ _
-          (λ _. marked-cut (commentFound doc from) Shape.Comment Error.UnclosedComment (omega arith) l (omega arith, refl)
+          (λ _. marked-cut (commentFound doc from) Shape.Comment Error.UnclosedComment (omega arith) (λ _. l) (omega arith, refl)
           (λ p e. let t = found-has MarksFound.At _ _ (comment-gives doc from) (commentFound doc from) p refl e in omega (arith, t)))
           (λ _. pick-cases Here (eqb third upperD) _ _
           (λ _. kept Error.DocType (omega arith, refl))
@@ -248,7 +248,7 @@ module _ (doc : List ℕ) (from : ℕ) where
           (λ _. bang-cut (getD doc (from + 2) 0))
           (λ _. pick-cases Here (eqb (getD doc (from + 1) 0) question) _ _
           (λ _. question-cut)
-          (λ _. pick-cases Here (eqb (getD doc (from + 1) 0) slash) _ _ (λ _. tag-cut Shape.End (omega arith) l) (λ _. tag-cut Shape.Start (omega arith) l))))
+          (λ _. pick-cases Here (eqb (getD doc (from + 1) 0) slash) _ _ (λ _. tag-cut Shape.End (omega arith) (λ _. l)) (λ _. tag-cut Shape.Start (omega arith) (λ _. l)))))
 
     pub next-cut : Here (cutNext doc from)
     unfolding cutNext

@@ -2,7 +2,8 @@
 -- such a turn here, once, and the laws above stand. Assumes nothing.
 use Prim.Native.Nat.{ℕ, _+_, _-_, _≤_, _<_}
 use mathlib.Core.Path.{_≡_, refl, sym, ap, _∙_}
-use mathlib.Core.List.{List}
+use mathlib.Core.List.{List, []}
+use mathlib.Core.Logic.{_⊎_, inl, inr}
 use mathlib.Core.Bool.{true, false}
 use native.Mathlib.Omega.{arith}
 use lib.ListN.{length, drop, getD}
@@ -53,8 +54,8 @@ use Rattle.reader.specs.declared.piece.Cut.{Cut}
 use Rattle.reader.specs.Names.{latest, nameOf, bytes}
 use Rattle.reader.specs.Sound.{inPlaceIn, inPlace, sound}
 use Rattle.reader.specs.Step.{emittedAs, emitted, checked, taken, skipped, stepText, bom, begin, stepIn, stepPhase, step, FirstIll}
-use Rattle.reader.proofs.Cuts.{fewest, Opens, Lands, Plain, PlainError, StopError, Lies, CutOff, CutAt, next-cut, markup-cut, ref-cut}
-use Rattle.reader.proofs.Passed.{white-octets, begin-octets}
+use Rattle.reader.proofs.Cuts.{fewest, Edges, Lands, Plain, PlainError, StopError, Lies, CutOff, CutAt, next-cut, markup-cut, ref-cut}
+use Rattle.reader.proofs.Passed.{textFrom, Passes, begin-within, passes-nothing, passes-white}
 use Rattle.reader.proofs.States.{sound-true, markup-at, ref-at}
 
 -- ---- what there is to see
@@ -104,18 +105,23 @@ pub record Commented (doc : List ℕ) (r : Reader) (a : Answer) : Type 0 where
   pub refused : valuesOf a .number ≡ 9 → (r .settings .«check_comments» ≡ true) × FirstPair doc (inner (valuesOf a .piece) 4 3) (valuesOf a .place)
   pub passed : valuesOf a .kind ≡ kindNumber Kind.Comment → r .settings .«check_comments» ≡ true → TwoHyphens doc (inner (valuesOf a .piece) 4 3) → ⊥
 
--- what a call says of UTF-8: what it passes over before its piece is well formed, and so is the piece of an event, and any after which reading goes on; 13 is
--- told at the first ill-formed byte of its piece
+-- what a call says of UTF-8: the piece of an event is well formed, and any after which reading goes on; 13 is told at the first ill-formed byte of its piece
 pub record Encoded (doc : List ℕ) (r : Reader) (s : Step) : Type 0 where
-  pub passed : Octets (part doc (r .position .0) (valuesOf (s .answer) .piece .from))
   pub event : 0 < valuesOf (s .answer) .kind → Octets (bytes doc (valuesOf (s .answer) .piece))
   pub going : (s .reader .phase ≡ Phase.Done → ⊥) → Octets (bytes doc (valuesOf (s .answer) .piece))
   pub ill : valuesOf (s .answer) .number ≡ 13 → FirstIll doc (valuesOf (s .answer) .piece) (valuesOf (s .answer) .place)
 
--- what a call says of the end: Eof where it is not refused, 18 where it is, at the latest open name; the reader is done after either. And what it does to the mark
-pub record Finished (last : Span) (r : Reader) (s : Step) : Type 0 where
+-- nothing is left to read: the document ends there, or the reader was done there before
+abbrev pub Spent : List ℕ → Reader → ℕ → Type 0
+Spent doc r to = (to ≡ length doc) ⊎ ((r .phase ≡ Phase.Done) × (to ≡ r .position .0))
+
+-- what a call says of the end: Eof where it is not refused, 18 where it is, at the latest open name; the reader is done after either, and after a refusal that
+-- ends the run. It is done after no other, unless nothing is left to read. And what a call does to the mark
+pub record Finished (doc : List ℕ) (last : Span) (r : Reader) (s : Step) : Type 0 where
   pub over : valuesOf (s .answer) .kind ≡ kindNumber Kind.Eof → (s .reader .phase ≡ Phase.Done) × (refusesEnd r ≡ false)
   pub unclosed : valuesOf (s .answer) .number ≡ 18 → (s .reader .phase ≡ Phase.Done) × (refusesEnd r ≡ true) × (valuesOf (s .answer) .place ≡ last .from)
+  pub stops : endsRun (valuesOf (s .answer) .number) ≡ true → s .reader .phase ≡ Phase.Done
+  pub done : s .reader .phase ≡ Phase.Done → (endsRun (valuesOf (s .answer) .number) ≡ true) ⊎ Spent doc r (s .reader .position .0)
   pub mark : s .reader .mark ≡ pick (turnsOn (s .answer)) true (r .mark)
 
 pub record Turned (doc : List ℕ) (cap : ℕ) (last : Span) (r : Reader) (s : Step) : Type 0 where
@@ -126,21 +132,22 @@ pub record Turned (doc : List ℕ) (cap : ℕ) (last : Span) (r : Reader) (s : S
   pub ordered : valuesOf (s .answer) .piece .from ≤ valuesOf (s .answer) .piece .to
   pub left : s .reader .position .0 ≡ valuesOf (s .answer) .piece .to
   pub within : valuesOf (s .answer) .piece .to ≤ length doc
+  pub passed : Passes doc r (valuesOf (s .answer) .piece .from)
   pub in-place : inPlace doc (s .reader) ≡ true
   pub falls : due doc (s .reader) ≤ due doc r - 1
-  pub finish : Finished last r s
+  pub finish : Finished doc last r s
   pub names : Named doc cap last r s
   pub comment : Commented doc r (s .answer)
   pub encoding : Encoded doc r s
 
 -- ---- the two ways to answer
 
--- a piece that starts after what was read and ends in the document, what is passed over before it being well formed
+-- a piece that starts after what was read and ends in the document, with what is passed over before it
 record Fits (doc : List ℕ) (r : Reader) (piece : Span) : Type 0 where
   pub after : r .position .0 ≤ piece .from
   pub ordered : piece .from ≤ piece .to
   pub within : piece .to ≤ length doc
-  pub passed : Octets (part doc (r .position .0) (piece .from))
+  pub passed : Passes doc r (piece .from)
 
 -- a well-formed one with bytes, where the reader is not done
 record Some (doc : List ℕ) (r : Reader) (piece : Span) : Type 0 where
@@ -192,6 +199,10 @@ like-marked r = record { size = refl; settings = refl }
 twin-owed : (r b : Reader) → Twin r b → b .depth .0 ≤ r .depth .0 → owed b ≤ owed r
 twin-owed r b t d = owed-less r b (t .like .settings) (t .mark) d
 
+-- a phase in which there is a call to come
+not-done : (p : Phase) → 1 ≤ rankAt [] 0 p → p ≡ Phase.Done → ⊥
+not-done p h e = let z : rankAt [] 0 p ≡ 0 = ap (rankAt [] 0) e in omega arith
+
 -- ---- names
 
 module _ (doc : List ℕ) (c : Config) (last name : Span) where
@@ -225,7 +236,7 @@ module _ (doc : List ℕ) (cap : ℕ) (last : Span) (r : Reader) (piece : Span) 
   Names = Named doc cap last r
 
   told-turn : (b : Reader) (kind : Kind) (content : Span) (name : ℕ) (next : Phase) → Like r b → Next doc r b (piece .to) next
-      → Octets (bytes doc piece) → Finished last r (told b (event kind piece content name) next) → Unpaired doc r piece kind
+      → Octets (bytes doc piece) → Finished doc last r (told b (event kind piece content name) next) → Unpaired doc r piece kind
       → Names (told b (event kind piece content name) next) → Turn (told b (event kind piece content name) next)
   unfolding told moved inPlace refusesEnd
   told-turn b kind content name next l n w o u k =
@@ -236,16 +247,17 @@ module _ (doc : List ℕ) (cap : ℕ) (last : Span) (r : Reader) (piece : Span) 
         ordered = f .ordered;
         left = refl;
         within = f .within;
+        passed = f .passed;
         in-place = n .in-place;
         falls = n .falls;
         finish = o;
         names = k;
         comment = record { refused = λ e. absurd (omega arith); passed = u };
-        encoding = record { passed = f .passed; event = λ _. w; going = λ _. w; ill = λ e. absurd (omega arith) };
+        encoding = record { event = λ _. w; going = λ _. w; ill = λ e. absurd (omega arith) };
       }
 
   refused-turn : (b : Reader) (error : Error) (place : Position) (next : Phase) → Like r b → Next doc r b (piece .to) next
-      → ((next ≡ Phase.Done → ⊥) → Octets (bytes doc piece)) → Finished last r (refused b error place piece next) → Placed doc r piece error place
+      → ((next ≡ Phase.Done → ⊥) → Octets (bytes doc piece)) → Finished doc last r (refused b error place piece next) → Placed doc r piece error place
       → Names (refused b error place piece next) → Turn (refused b error place piece next)
   unfolding refused moved inPlace refusesEnd
   refused-turn b error place next l n w o p k =
@@ -256,33 +268,49 @@ module _ (doc : List ℕ) (cap : ℕ) (last : Span) (r : Reader) (piece : Span) 
         ordered = f .ordered;
         left = refl;
         within = f .within;
+        passed = f .passed;
         in-place = n .in-place;
         falls = n .falls;
         finish = o;
         names = k;
         comment = record { refused = p .0; passed = λ e. absurd (omega arith) };
-        encoding = record { passed = f .passed; event = λ e. absurd (omega arith); going = w; ill = p .1 };
+        encoding = record { event = λ e. absurd (omega arith); going = w; ill = p .1 };
       }
+
+  -- a phase that comes next is Done only where nothing is left to read
+  abbrev Ends : Phase → Type 0
+  Ends next = next ≡ Phase.Done → Spent doc r (piece .to)
+
+  lands-ends : (next : Phase) → Lands doc (piece .to) next → Ends next
+  lands-ends Phase.Init l e = absurd l
+  lands-ends Phase.InsideText l e = absurd (not-done _ (omega arith) e)
+  lands-ends Phase.InsideMarkup l e = absurd (not-done _ (omega arith) e)
+  lands-ends Phase.InsideRef l e = absurd (not-done _ (omega arith) e)
+  lands-ends Phase.InsideEmpty l e = absurd l
+  lands-ends Phase.Done l e = inl l
+
+  text-ends : Ends Phase.InsideText
+  text-ends = lands-ends Phase.InsideText tt
 
   -- an answer that is not of the end, and keeps the mark
   told-on : (b : Reader) (kind : Kind) (content : Span) (name : ℕ) (next : Phase) → Twin r b → (kindNumber kind ≡ kindNumber Kind.Eof → ⊥)
-      → Finished last r (told b (event kind piece content name) next)
+      → Ends next → Finished doc last r (told b (event kind piece content name) next)
   unfolding told moved
-  told-on b kind content name next t n =
-      record { over = λ e. absurd (n e); unclosed = λ e. absurd (omega arith); mark = rw (ne-eqb (kindNumber kind) (kindNumber Kind.Eof) n) (t .mark) }
+  told-on b kind content name next t n d =
+      record { over = λ e. absurd (n e); unclosed = λ e. absurd (omega arith); stops = λ e. clash false e refl; done = λ e. inr (d e); mark = rw (ne-eqb (kindNumber kind) (kindNumber Kind.Eof) n) (t .mark) }
 
   refused-on : (b : Reader) (error : Error) (place : Position) (next : Phase) → Twin r b → (numberedOf error .number ≡ 18 → ⊥) → endsRun (numberedOf error .number) ≡ false
-      → Finished last r (refused b error place piece next)
+      → Ends next → Finished doc last r (refused b error place piece next)
   unfolding refused moved
-  refused-on b error place next t n off =
-      record { over = λ e. absurd (omega arith); unclosed = λ e. absurd (n e); mark = rw (ne-eqb (numberedOf error .number) 18 n, off) (t .mark) }
+  refused-on b error place next t n off d =
+      record { over = λ e. absurd (omega arith); unclosed = λ e. absurd (n e); stops = λ e. clash _ e off; done = λ e. inr (d e); mark = rw (ne-eqb (numberedOf error .number) 18 n, off) (t .mark) }
 
   -- one that ends the run
   stopped-off : (error : Error) (place : Position) → (numberedOf error .number ≡ 18 → ⊥) → endsRun (numberedOf error .number) ≡ true
-      → Finished last r (refused (marked r) error place piece Phase.Done)
+      → Finished doc last r (refused (marked r) error place piece Phase.Done)
   unfolding refused moved marked
   stopped-off error place n on =
-      record { over = λ e. absurd (omega arith); unclosed = λ e. absurd (n e); mark = rw (ne-eqb (numberedOf error .number) 18 n, on) refl }
+      record { over = λ e. absurd (omega arith); unclosed = λ e. absurd (n e); stops = λ _. refl; done = λ _. inl on; mark = rw (ne-eqb (numberedOf error .number) 18 n, on) refl }
 
   -- the phases that come next
   to-end : Next doc r (marked r) (piece .to) Phase.Done
@@ -308,17 +336,17 @@ module _ (doc : List ℕ) (cap : ℕ) (last : Span) (r : Reader) (piece : Span) 
 
   -- ---- an answer that says nothing of names
 
-  told-quiet : (kind : Kind) (content : Span) (name : ℕ) (next : Phase) → Next doc r r (piece .to) next → Octets (bytes doc piece) → Silent kind
+  told-quiet : (kind : Kind) (content : Span) (name : ℕ) (next : Phase) → Next doc r r (piece .to) next → Ends next → Octets (bytes doc piece) → Silent kind
       → Turn (told r (event kind piece content name) next)
   unfolding told moved
-  told-quiet kind content name next n w q =
-      told-turn r kind content name next (twin-itself r .like) n w (told-on r kind content name next (twin-itself r) (q .2)) (λ e. absurd (q .3 e)) (keeps (q .0, q .1, omega arith) refl)
+  told-quiet kind content name next n d w q =
+      told-turn r kind content name next (twin-itself r .like) n w (told-on r kind content name next (twin-itself r) (q .2) d) (λ e. absurd (q .3 e)) (keeps (q .0, q .1, omega arith) refl)
 
-  refused-quiet : (error : Error) (place : Position) (next : Phase) → Next doc r r (piece .to) next → ((next ≡ Phase.Done → ⊥) → Octets (bytes doc piece))
+  refused-quiet : (error : Error) (place : Position) (next : Phase) → Next doc r r (piece .to) next → Ends next → ((next ≡ Phase.Done → ⊥) → Octets (bytes doc piece))
       → PlainError error → endsRun (numberedOf error .number) ≡ false → Turn (refused r error place piece next)
   unfolding refused moved
-  refused-quiet error place next n w p off =
-      refused-turn r error place next (twin-itself r .like) n w (refused-on r error place next (twin-itself r) (p .3) off) (λ e. absurd (p .1 e), λ e. absurd (p .2 e))
+  refused-quiet error place next n d w p off =
+      refused-turn r error place next (twin-itself r .like) n w (refused-on r error place next (twin-itself r) (p .3) off d) (λ e. absurd (p .1 e), λ e. absurd (p .2 e))
       (keeps (λ e. omega arith, λ e. omega arith, p .0) refl)
 
   stopped-quiet : (error : Error) (place : Position) → StopError error → Turn (stopped r error place piece)
@@ -329,47 +357,47 @@ module _ (doc : List ℕ) (cap : ℕ) (last : Span) (r : Reader) (piece : Span) 
 
   -- ---- the end
 
-  eof-turn : Octets (bytes doc piece) → refusesEnd r ≡ false → Turn (ended r piece)
+  eof-turn : Octets (bytes doc piece) → Spent doc r (piece .to) → refusesEnd r ≡ false → Turn (ended r piece)
   unfolding ended told moved marked
-  eof-turn w e =
+  eof-turn w d e =
       told-turn (marked r) Kind.Eof _ 0 Phase.Done (like-marked r) to-end w
-      (record { over = λ _. (refl, e); unclosed = λ e. absurd (omega arith); mark = refl }) (λ e. absurd (omega arith)) (keeps (omega arith) refl)
+      (record { over = λ _. (refl, e); unclosed = λ e. absurd (omega arith); stops = λ e. clash false e refl; done = λ _. inr d; mark = refl }) (λ e. absurd (omega arith)) (keeps (omega arith) refl)
 
   -- 18
-  unclosed-turn : refusesEnd r ≡ true → Turn (stopped r Error.UnclosedElements (at (last .from)) piece)
+  unclosed-turn : Spent doc r (piece .to) → refusesEnd r ≡ true → Turn (stopped r Error.UnclosedElements (at (last .from)) piece)
   unfolding stopped refused moved marked
-  unclosed-turn e =
+  unclosed-turn d e =
       refused-turn (marked r) Error.UnclosedElements _ Phase.Done (like-marked r) to-end (λ n. absurd (n refl))
-      (record { over = λ e. absurd (omega arith); unclosed = λ _. (refl, e, refl); mark = refl }) (λ e. absurd (omega arith), λ e. absurd (omega arith)) (keeps (omega arith) refl)
+      (record { over = λ e. absurd (omega arith); unclosed = λ _. (refl, e, refl); stops = λ e. clash false e refl; done = λ _. inr d; mark = refl }) (λ e. absurd (omega arith), λ e. absurd (omega arith)) (keeps (omega arith) refl)
 
-  end-turn : Octets (bytes doc piece) → Turn (ending r last piece)
+  end-turn : Octets (bytes doc piece) → Spent doc r (piece .to) → Turn (ending r last piece)
   unfolding ending
-  end-turn w = pick-cases Turn (refusesEnd r) _ _ (λ e. unclosed-turn e) (λ e. eof-turn w e)
+  end-turn w d = pick-cases Turn (refusesEnd r) _ _ (λ e. unclosed-turn d e) (λ e. eof-turn w d e)
 
   -- ---- text, references, comments, CDATA, processing instructions
 
-  last-turn : length doc - piece .from + 1 ≤ rank doc r → Octets (bytes doc piece) → Turn (emitLastText doc r last piece)
+  last-turn : length doc - piece .from + 1 ≤ rank doc r → Octets (bytes doc piece) → piece .to ≡ length doc → Turn (emitLastText doc r last piece)
   unfolding emitLastText emitText
-  last-turn near w =
+  last-turn near w l =
       pick-cases Turn (eqb (size (textContent doc (r .settings) piece)) 0) _ _
-      (λ _. end-turn w)
-      (λ _. told-quiet Kind.Text _ 0 Phase.Done (to-done near) w (omega arith))
+      (λ _. end-turn w (inl l))
+      (λ _. told-quiet Kind.Text _ 0 Phase.Done (to-done near) (λ _. inl l) w (omega arith))
 
   module _ (some : Some doc r piece) where
     text-turn : (next : Phase) → Lands doc (piece .to) next → Turn (emitText doc r piece next)
     unfolding emitText
-    text-turn next l = told-quiet Kind.Text _ 0 next (to-next some next l) (some .whole) (omega arith)
+    text-turn next l = told-quiet Kind.Text _ 0 next (to-next some next l) (lands-ends next l) (some .whole) (omega arith)
 
     dangling-turn : (next : Phase) → Lands doc (piece .to) next → Turn (emitDangling r piece next)
     unfolding emitDangling
     dangling-turn next l =
         pick-cases Turn (r .settings .«allow_dangling_amp») _ _
-        (λ _. told-quiet Kind.Text piece 0 next (to-next some next l) (some .whole) (omega arith))
-        (λ _. refused-quiet Error.UnclosedReference _ next (to-next some next l) (λ _. some .whole) (omega arith) refl)
+        (λ _. told-quiet Kind.Text piece 0 next (to-next some next l) (lands-ends next l) (some .whole) (omega arith))
+        (λ _. refused-quiet Error.UnclosedReference _ next (to-next some next l) (lands-ends next l) (λ _. some .whole) (omega arith) refl)
 
     -- an event after which text goes on
     plain-turn : (kind : Kind) (content : Span) (name : ℕ) → Silent kind → Turn (told r (event kind piece content name) Phase.InsideText)
-    plain-turn kind content name q = told-quiet kind content name Phase.InsideText (to-text some r (omega arith)) (some .whole) q
+    plain-turn kind content name q = told-quiet kind content name Phase.InsideText (to-text some r (omega arith)) text-ends (some .whole) q
 
     ref-turn : Turn (emitRef r piece)
     unfolding emitRef
@@ -383,7 +411,7 @@ module _ (doc : List ℕ) (cap : ℕ) (last : Span) (r : Reader) (piece : Span) 
     remark-turn : (content : Span) → (r .settings .«check_comments» ≡ true → TwoHyphens doc (inner piece 4 3) → ⊥) → Turn (bangEvent r Kind.Comment piece content)
     unfolding bangEvent told moved
     remark-turn content u =
-        told-turn r Kind.Comment content 0 Phase.InsideText (twin-itself r .like) (to-text some r (omega arith)) (some .whole) (told-on r Kind.Comment content 0 Phase.InsideText (twin-itself r) (λ e. omega arith))
+        told-turn r Kind.Comment content 0 Phase.InsideText (twin-itself r .like) (to-text some r (omega arith)) (some .whole) (told-on r Kind.Comment content 0 Phase.InsideText (twin-itself r) (λ e. omega arith) text-ends)
         (λ _. u) (keeps (omega arith) refl)
 
     -- one whose hyphens are looked for
@@ -396,7 +424,7 @@ module _ (doc : List ℕ) (cap : ℕ) (last : Span) (r : Reader) (piece : Span) 
         (λ p e. pick-cases Turn (ltb to p) _ _
         (λ t. remark-turn _ (λ _ h. pair-behind doc from to p e (ltb-true to p t) (h .0) (h .1)))
         (λ t. refused-turn r Error.DoubleHyphenInComment _ Phase.InsideText (twin-itself r .like) (to-text some r (omega arith)) (λ _. some .whole)
-        (refused-on r Error.DoubleHyphenInComment _ Phase.InsideText (twin-itself r) (λ e. omega arith) refl)
+        (refused-on r Error.DoubleHyphenInComment _ Phase.InsideText (twin-itself r) (λ e. omega arith) refl text-ends)
         (λ _. (on, pair-first doc from to p e (ltb-false to p t)), λ e. absurd (omega arith)) (keeps (omega arith) refl)))
         (λ e. remark-turn _ (λ _ h. pair-nowhere doc from to e (h .0) (h .1)))
 
@@ -430,7 +458,7 @@ module _ (doc : List ℕ) (cap : ℕ) (last : Span) (r : Reader) (piece : Span) 
       unfolding endEvent told moved
       stray-turn z on =
           told-turn r Kind.End name _ Phase.InsideText (twin-itself r .like) (to-text some r (omega arith)) (some .whole)
-          (told-on r Kind.End name _ Phase.InsideText (twin-itself r) (λ e. omega arith)) (λ e. absurd (omega arith)) (closes-nothing refl z z on)
+          (told-on r Kind.End name _ Phase.InsideText (twin-itself r) (λ e. omega arith) text-ends) (λ e. absurd (omega arith)) (closes-nothing refl z z on)
 
       unmatched-turn : r .depth .0 ≡ 0 → Turn (unmatched r piece name)
       unfolding unmatched refused moved
@@ -438,7 +466,7 @@ module _ (doc : List ℕ) (cap : ℕ) (last : Span) (r : Reader) (piece : Span) 
           pick-cases Turn (r .settings .«allow_unmatched_ends») _ _
           (λ on. stray-turn z on)
           (λ off. refused-turn r (Error.UnmatchedEndTag name) _ Phase.InsideText (twin-itself r .like) (to-text some r (omega arith)) (λ _. some .whole)
-          (refused-on r (Error.UnmatchedEndTag name) _ Phase.InsideText (twin-itself r) (λ e. omega arith) refl)
+          (refused-on r (Error.UnmatchedEndTag name) _ Phase.InsideText (twin-itself r) (λ e. omega arith) refl text-ends)
           (λ e. absurd (omega arith), λ e. absurd (omega arith)) (unmatches refl z z off))
 
       -- b has one name fewer
@@ -449,7 +477,7 @@ module _ (doc : List ℕ) (cap : ℕ) (last : Span) (r : Reader) (piece : Span) 
         closed-turn : (r .settings .«check_end_names» ≡ true → bytes doc name ≡ bytes doc last) → Turn (endEvent b piece name)
         unfolding endEvent told moved
         closed-turn same =
-            told-turn b Kind.End name _ Phase.InsideText (l .like) onward (some .whole) (told-on b Kind.End name _ Phase.InsideText l (λ e. omega arith))
+            told-turn b Kind.End name _ Phase.InsideText (l .like) onward (some .whole) (told-on b Kind.End name _ Phase.InsideText l (λ e. omega arith) text-ends)
             (λ e. absurd (omega arith)) (closes refl z d same)
 
         matched-turn : Turn (matched doc b last piece name)
@@ -459,7 +487,7 @@ module _ (doc : List ℕ) (cap : ℕ) (last : Span) (r : Reader) (piece : Span) 
             pick-cases Turn (differs doc (b .settings) last name) _ _
             (λ e. let x = disagrees doc (b .settings) last name e in
             refused-turn b (Error.MismatchedEndTag last name) _ Phase.InsideText (l .like) onward (λ _. some .whole)
-            (refused-on b (Error.MismatchedEndTag last name) _ Phase.InsideText l (λ e. omega arith) refl) (λ e. absurd (omega arith), λ e. absurd (omega arith))
+            (refused-on b (Error.MismatchedEndTag last name) _ Phase.InsideText l (λ e. omega arith) refl text-ends) (λ e. absurd (omega arith), λ e. absurd (omega arith))
             (mismatches refl z d (sym on ∙ x .0) refl (x .1)))
             (λ e. closed-turn (λ h. agrees doc (b .settings) last name e (on ∙ h)))
 
@@ -479,15 +507,15 @@ module _ (doc : List ℕ) (cap : ℕ) (last : Span) (r : Reader) (piece : Span) 
 
     -- a tag that begins with `<` and has a byte more, and what is answered where there is no room for its name
     module _ (bracket : getD doc (piece .from) 0 ≡ lt) (two : piece .from + 2 ≤ piece .to) (full : Turn (stopped r Error.NameStackFull (at (piece .from)) (span (piece .from) (piece .from)))) where
-      module _ (content : Span) (next : Phase) (n : (b : Reader) → b .depth .0 ≡ r .depth .0 + 1 → Next doc r b (piece .to) next)
+      module _ (content : Span) (next : Phase) (n : (b : Reader) → b .depth .0 ≡ r .depth .0 + 1 → Next doc r b (piece .to) next) (d : Ends next)
           (first : content .from ≡ piece .from + 1) (o : content .from ≤ content .to) (w : content .to ≤ piece .to) (x : slashed doc piece ≡ true → next ≡ Phase.InsideEmpty) where
         -- b has one name more
         added-turn : (b : Reader) → Twin r b → b .depth .0 ≡ r .depth .0 + 1 → r .depth .0 < cap
             → Turn (told b (event Kind.Start piece content (nameLen (bytes doc content))) next)
         unfolding told moved
-        added-turn b l d room =
-            told-turn b Kind.Start content _ next (l .like) (n b d) (some .whole) (told-on b Kind.Start content _ next l (λ e. omega arith)) (λ e. absurd (omega arith))
-            (opens refl room d (record { ordered = o; within = w; named = refl; opens = bracket; starts = first; expands = x }))
+        added-turn b l more room =
+            told-turn b Kind.Start content _ next (l .like) (n b more) (some .whole) (told-on b Kind.Start content _ next l (λ e. omega arith) d) (λ e. absurd (omega arith))
+            (opens refl room more (record { ordered = o; within = w; named = refl; opens = bracket; starts = first; expands = x }))
 
         opened-turn : Turn (opening r (depthOf cap) (tag doc Kind.Start piece content) next)
         unfolding opening tag withDepth
@@ -503,10 +531,10 @@ module _ (doc : List ℕ) (cap : ℕ) (last : Span) (r : Reader) (piece : Span) 
           (λ e. pick-cases Turn (r .settings .«expand_empty_elements») _ _
           (λ _. let i = inner-lies piece 1 2 (f .ordered) in
           let long = slashed-long doc piece e in
-          opened-turn _ Phase.InsideEmpty (λ b d. to-empty b d long) (inner-first 2 (omega arith)) (i .0) (i .1) (λ _. refl))
+          opened-turn _ Phase.InsideEmpty (λ b d. to-empty b d long) (λ e. absurd (not-done Phase.InsideEmpty (omega arith) e)) (inner-first 2 (omega arith)) (i .0) (i .1) (λ _. refl))
           (λ _. plain-turn Kind.Empty _ _ (omega arith)))
           (λ e. let i = inner-lies piece 1 1 (f .ordered) in
-          opened-turn _ Phase.InsideText (λ b d. record { in-place = refl; falls = omega (arith, f, some, owed-few b) }) (inner-first 1 (omega arith)) (i .0) (i .1) (λ t. clash _ t e))
+          opened-turn _ Phase.InsideText (λ b d. record { in-place = refl; falls = omega (arith, f, some, owed-few b) }) text-ends (inner-first 1 (omega arith)) (i .0) (i .1) (λ t. clash _ t e))
         where
           inner-first : (back : ℕ) → piece .from + 1 + back ≤ piece .to → inner piece 1 back .from ≡ piece .from + 1
           inner-first back h = ap (λ (x : Span). x .from) (sym (fits piece 1 back (omega arith) (omega arith) (omega arith)))
@@ -519,20 +547,12 @@ pub utf8-cases : {A : Type 0} (M : A → Type 0) (u : Utf8) (a : A) (f : ℕ →
 utf8-cases M Utf8.WellFormed a f g h = g refl
 utf8-cases M (Utf8.IllFormed p) a f g h = h p refl
 
--- where text begins lies in the document
-begin-within : (doc : List ℕ) → begin doc ≤ length doc
-unfolding begin
-begin-within doc =
-    pick-cases (λ (n : ℕ). n ≤ length doc) (begins doc bom) _ _
-    (λ e. begins-long doc bom e)
-    (λ _. omega arith)
-
 -- a place where the call may cut its piece off
 record From (doc : List ℕ) (r : Reader) (from : ℕ) : Type 0 where
   pub after : r .position .0 ≤ from
   pub within : from ≤ length doc
   pub near : length doc - from + 1 ≤ rank doc r
-  pub passed : Octets (part doc (r .position .0) from)
+  pub passed : Passes doc r from
 
 lies-fits : (doc : List ℕ) (r : Reader) (from : ℕ) (piece : Span) → From doc r from → Lies doc from piece → Fits doc r piece
 lies-fits doc r from piece f l =
@@ -559,10 +579,10 @@ module _ (doc : List ℕ) (cap : ℕ) (last : Span) (r : Reader) where
     some : piece .from + 1 ≤ piece .to → Some doc r piece
     some m = record { has = omega arith; near = near; whole = whole }
 
-    emitted-turn : (shape : Shape) (next : Phase) → piece .from + fewest shape ≤ piece .to → Opens doc (piece .from) shape → Lands doc (piece .to) next
+    emitted-turn : (shape : Shape) (next : Phase) → piece .from + fewest shape ≤ piece .to → Edges doc (piece .from) (piece .to) shape → Lands doc (piece .to) next
         → Turns (emittedAs doc r last (depthOf cap) shape piece next)
     emitted-turn Shape.Text next m o l = text-turn doc cap last r piece f (some m) next l
-    emitted-turn Shape.LastText next m o l = last-turn doc cap last r piece f near whole
+    emitted-turn Shape.LastText next m o l = last-turn doc cap last r piece f near whole o
     emitted-turn Shape.GeneralRef next m o l = ref-turn doc cap last r piece f (some m)
     emitted-turn Shape.Dangling next m o l = dangling-turn doc cap last r piece f (some m) next l
     emitted-turn Shape.Comment next m o l = comment-turn doc cap last r piece f (some m)
@@ -577,7 +597,7 @@ module _ (doc : List ℕ) (cap : ℕ) (last : Span) (r : Reader) where
       let fits : Fits doc r (p .span) = lies-fits doc r from _ f (c .lies) in
       utf8-cases Turns (check (p .span .from) (bytes doc (p .span))) _ _
       (λ e. emitted-turn (p .span) fits (rw (c .lies .starts) (f .near)) (well-formed (p .span .from) (bytes doc (p .span)) .0 e)
-      (p .shape) (p .next) (rw (c .lies .starts) (c .moves)) (rw (c .lies .starts) (c .opens)) (c .lands))
+      (p .shape) (p .next) (rw (c .lies .starts) (c .moves)) (rw (c .lies .starts) (c .edges)) (c .lands))
       (λ ill e. ill-turn (p .span) fits ill
       (ill-first doc (p .span .from) (p .span .to) ill (ill-here doc (p .span .from) (p .span .to) (fits .within) (c .border) (fits .ordered) ill e)))
 
@@ -589,41 +609,38 @@ module _ (doc : List ℕ) (cap : ℕ) (last : Span) (r : Reader) where
   -- ---- the phases
 
   -- "go on as text" from a place
-  skip-from : (from : ℕ) → From doc r from → From doc r (skipped doc (r .settings) from)
+  skip-within : (from : ℕ) → from ≤ length doc → (from ≤ skipped doc (r .settings) from) × (skipped doc (r .settings) from ≤ length doc)
   unfolding skipped
-  skip-from from f =
-      pick-cases (From doc r) (r .settings .«trim_text_start») _ _
-      (λ _. let w : from + leading (part doc from (length doc)) ≤ length doc =
-      omega (arith, f, until-within notWhite (part doc from (length doc)), part-end doc from (length doc)) in
-      record {
-        after = omega (arith, f);
-        within = w;
-        near = omega (arith, f);
-        passed = octets-parts doc (r .position .0) from _ (f .after) (omega arith) w (f .passed) (white-octets doc from (f .within));
-      })
-      (λ _. f)
+  skip-within from h =
+      pick-cases (λ (to : ℕ). (from ≤ to) × (to ≤ length doc)) (r .settings .«trim_text_start») _ _
+      (λ _. (omega arith, omega (arith, until-within notWhite (part doc from (length doc)), part-end doc from (length doc))))
+      (λ _. (omega arith, h))
 
-  text-from : (from : ℕ) → From doc r from → Turns (stepText doc r last (depthOf cap) from)
+  text-from : (from : ℕ) → From doc r from → textFrom doc (r .position .0) (r .phase) ≡ from → Turns (stepText doc r last (depthOf cap) from)
   unfolding stepText
-  text-from from f = let g = skip-from from f in taken-turn _ _ g (next-cut doc _ (g .within))
+  text-from from f e =
+      let s = skip-within from (f .within) in
+      taken-turn _ _ (record { after = omega (arith, f, s); within = s .1; near = omega (arith, f, s); passed = passes-white doc r from e }) (next-cut doc _ (s .1))
 
   module _ (in-doc : r .position .0 ≤ length doc) (ok : inPlace doc r ≡ true) where
     -- the piece with no bytes where the reader stands
     nothing : Octets (part doc (r .position .0) (r .position .0))
     nothing = octets-nothing doc (r .position .0) in-doc
 
-    here : Fits doc r (span (r .position .0) (r .position .0))
-    here = record { after = omega arith; ordered = omega arith; within = in-doc; passed = nothing }
+    -- where the reader stands, and text may begin
+    module _ (e : textFrom doc (r .position .0) (r .phase) ≡ r .position .0) where
+      here : Fits doc r (span (r .position .0) (r .position .0))
+      here = record { after = omega arith; ordered = omega arith; within = in-doc; passed = passes-nothing doc r (r .position .0) e }
 
-    -- where the reader stands, with a rank as in text
-    stands : (p : Phase) → r .phase ≡ p → length doc - r .position .0 + 1 ≤ rankAt doc (r .position .0) p → From doc r (r .position .0)
-    stands p e h = record { after = omega arith; within = in-doc; near = rw e h; passed = nothing }
+      -- with a rank as in text
+      stands : length doc - r .position .0 + 1 ≤ rank doc r → From doc r (r .position .0)
+      stands h = record { after = omega arith; within = in-doc; near = h; passed = passes-nothing doc r (r .position .0) e }
 
     from-start : r .phase ≡ Phase.Init → From doc r (begin doc)
     unfolding inPlace
     from-start e =
         let z : r .position .0 ≡ 0 = eqb-true _ _ (both _ _ (simp e at ok) .0) in
-        record { after = omega arith; within = begin-within doc; near = rw e (omega arith); passed = rw z (begin-octets doc) }
+        record { after = omega arith; within = begin-within doc; near = rw e (omega arith); passed = passes-nothing doc r (begin doc) (ap (textFrom doc (r .position .0)) e) }
 
     module _ (e : r .phase ≡ Phase.InsideEmpty) where
       -- b has one name fewer
@@ -632,9 +649,10 @@ module _ (doc : List ℕ) (cap : ℕ) (last : Span) (r : Reader) where
       expanded-end b l d =
           let z : 0 < r .depth .0 = ltb-true _ _ (simp e at ok) in
           let two : rank doc r ≡ length doc - r .position .0 + 2 = ap (rankAt doc (r .position .0)) e in
-          told-turn doc cap last r (span (r .position .0) (r .position .0)) here b Kind.End last _
+          let s = ap (textFrom doc (r .position .0)) e in
+          told-turn doc cap last r (span (r .position .0) (r .position .0)) (here s) b Kind.End last _
           Phase.InsideText (l .like) (record { in-place = refl; falls = omega (arith, two, twin-owed r b l (omega arith)) }) nothing
-          (told-on doc cap last r (span (r .position .0) (r .position .0)) here b Kind.End last _ Phase.InsideText l (λ e. omega arith)) (λ e. absurd (omega arith))
+          (told-on doc cap last r (span (r .position .0) (r .position .0)) (here s) b Kind.End last _ Phase.InsideText l (λ e. omega arith) (text-ends doc cap last r (span (r .position .0) (r .position .0)) (here s))) (λ e. absurd (omega arith))
           (closes refl z d (λ _. refl))
 
       expanded-turn : Turns (closeExpandedEmpty r last)
@@ -642,12 +660,14 @@ module _ (doc : List ℕ) (cap : ℕ) (last : Span) (r : Reader) where
       expanded-turn = expanded-end _ (record { like = record { size = refl; settings = refl }; mark = refl }) refl
 
     phase-turn : (p : Phase) → r .phase ≡ p → Turns (stepIn doc r last (depthOf cap) p)
-    phase-turn Phase.Init e = text-from (begin doc) (from-start e)
-    phase-turn Phase.InsideText e = text-from (r .position .0) (stands Phase.InsideText e (omega arith))
-    phase-turn Phase.InsideMarkup e = taken-turn _ _ (stands Phase.InsideMarkup e (omega arith)) (markup-cut doc (r .position .0) in-doc (markup-at doc r ok e))
-    phase-turn Phase.InsideRef e = taken-turn _ _ (stands Phase.InsideRef e (omega arith)) (ref-cut doc (r .position .0) in-doc (ref-at doc r ok e))
+    phase-turn Phase.Init e = text-from (begin doc) (from-start e) (ap (textFrom doc (r .position .0)) e)
+    phase-turn Phase.InsideText e = let s = ap (textFrom doc (r .position .0)) e in text-from (r .position .0) (stands s (rw e (omega arith))) s
+    phase-turn Phase.InsideMarkup e =
+        taken-turn _ _ (stands (ap (textFrom doc (r .position .0)) e) (rw e (omega arith))) (markup-cut doc (r .position .0) in-doc (markup-at doc r ok e))
+    phase-turn Phase.InsideRef e =
+        taken-turn _ _ (stands (ap (textFrom doc (r .position .0)) e) (rw e (omega arith))) (ref-cut doc (r .position .0) in-doc (ref-at doc r ok e))
     phase-turn Phase.InsideEmpty e = expanded-turn e
-    phase-turn Phase.Done e = end-turn doc cap last r _ here nothing
+    phase-turn Phase.Done e = end-turn doc cap last r _ (here (ap (textFrom doc (r .position .0)) e)) nothing (inr (e, refl))
 
 -- a call on a sound state is a turn
 pub step-turn : (doc stack : List ℕ) (r : Reader) → sound doc stack r ≡ true
