@@ -8,6 +8,7 @@ use lib.ListN.{length, getD, take, replicate}
 use lib.Seq.{getD-take}
 use lib.Dec.{eqb}
 use Rattle.ground.proofs.Choices.{pick-nlt}
+use Rattle.state.specs.declared.place.Span.{Span}
 use Rattle.state.specs.declared.answer.Kind.{Kind}
 use Rattle.state.specs.declared.answer.Answer.{Answer}
 use Rattle.state.specs.declared.answer.Values.{Values}
@@ -15,16 +16,19 @@ use Rattle.state.specs.declared.run.Reader.{Reader}
 use Rattle.state.specs.declared.run.Made.{Made}
 use Rattle.state.specs.Limits.{longest}
 use Rattle.state.specs.Make.{fresh, made}
+use Rattle.state.specs.Place.{span}
 use Rattle.state.specs.Values.{kindNumber, valuesOf, endsRun}
 use Rattle.demands.specs.Answers.{isMismatch, isUnclosed, isEnding, count, latestIs, oneIs}
+use Rattle.demands.specs.Laid.{pieces, SetOnce}
 use Rattle.demands.specs.Run.{World, said, call, run}
 use Rattle.demands.proofs.Demand3.{starts-are-ends-mismatches-and-open, as-many-as-the-depth}
 use Rattle.demands.proofs.Joined.{latest-eof}
+use Rattle.demands.proofs.Laid.{each-byte-is-set-once, at-eof-the-position-is-the-length}
 use Rattle.demands.proofs.Unclosed.{a-page-that-ends-with-eof-and-no-refusal-is-whole}
 use Rattle.capi.specs.Numbers.{configOf, valuesNumbers, answerSlots}
 use Rattle.capi.specs.Slots.{put}
 use Rattle.capi.specs.Calls.{madeNumber, Called}
-use Rattle.capi.specs.Hosts.{Heard, Host, HostCalls, none, more, numbersHeard, numbersTold, heardKind, heardNumber, heardEnding, namesOpen, Follows}
+use Rattle.capi.specs.Hosts.{Heard, Host, HostCalls, none, more, numbersHeard, numbersTold, heardKind, heardNumber, heardEnding, namesOpen, heardPiece, standsAt, Follows}
 use Rattle.capi.proofs.Rounds.{holds}
 use Rattle.capi.proofs.Runs.{a-host's-reader-is-a-run's, a-host's-call-is-the-run's}
 
@@ -88,6 +92,19 @@ module _ (x : Heard) (a : Answer) (e : numbersHeard x ≡ numbersTold a) where
   same-ending : heardEnding x ≡ isEnding a
   same-ending = ap (λ (vs : List ℕ). endsRun (getD vs 0 0)) e
 
+-- the piece is told by the fifth and the sixth of the numbers
+abbrev pieceIn : List ℕ → Span
+pieceIn numbers = span (getD numbers 4 0) (getD numbers 5 0)
+
+pieces-heard : (xs : List Heard) → map heardPiece xs ≡ map pieceIn (map numbersHeard xs)
+pieces-heard [] = refl
+pieces-heard (x ∷ xs) = ap₂ _∷_ (sym (ap₂ span (getD-take answerSlots (x .slots) 3 0 (omega arith)) (getD-take answerSlots (x .slots) 4 0 (omega arith)))) (pieces-heard xs)
+
+pieces-told : (answers : List Answer) → pieces answers ≡ map pieceIn (map numbersTold answers)
+unfolding valuesNumbers
+pieces-told [] = refl
+pieces-told (a ∷ before) = ap (λ (ps : List Span). valuesOf a .piece ∷ ps) (pieces-told before)
+
 -- ---- the demands, in the numbers that a host hears
 
 module _ (doc stack : List ℕ) (settings : ℕ) {n : ℕ} {h : Host} (calls : HostCalls doc stack settings n h) where
@@ -142,3 +159,21 @@ module _ (doc stack : List ℕ) (settings : ℕ) {n : ℕ} {h : Host} (calls : H
       (sym (same-told heardEnding isEnding same-ending (h .heard) (w .answers) (follows .heard) .2) ∙ ending) in
       let none : namesOpen h ≡ 0 = open-names ∙ sym (as-many-as-the-depth doc stack (configOf settings) short n) ∙ ap length (whole .0) in
       (none, λ off. omega (arith, none, a-host's-starts-are-ends-mismatches-and-open off))
+
+  same-pieces : map heardPiece (h .heard) ≡ pieces (w .answers)
+  same-pieces = pieces-heard (h .heard) ∙ ap (map pieceIn) (follows .heard) ∙ sym (pieces-told (w .answers))
+
+  same-position : standsAt h ≡ w .reader .position .0
+  same-position = ap (λ (r : Reader). r .position .0) (holds (h .state) (w .reader) (follows .state) .3)
+
+  -- THEOREM: no byte is set twice and none is dropped, by the pieces that a host hears
+  pub each-byte-is-set-once-for-a-host : SetOnce doc (configOf settings) (map heardPiece (h .heard)) (standsAt h)
+  each-byte-is-set-once-for-a-host = rw (same-pieces, same-position) (each-byte-is-set-once doc stack (configOf settings) short n)
+
+  -- THEOREM: and of a host that heard Eof and no refusal that ended the run the state stands at the document's end
+  pub at-eof-a-host-stands-at-the-end : oneIs (heardKind Kind.Eof) (h .heard) ≡ true → oneIs heardEnding (h .heard) ≡ false → standsAt h ≡ length doc
+  at-eof-a-host-stands-at-the-end eof ending =
+      same-position
+      ∙ at-eof-the-position-is-the-length doc stack (configOf settings) short n
+      (sym (heard-kind Kind.Eof .2) ∙ eof)
+      (sym (same-told heardEnding isEnding same-ending (h .heard) (w .answers) (follows .heard) .2) ∙ ending)

@@ -5,9 +5,11 @@ use mathlib.Core.Bool.{Bool}
 use mathlib.Core.List.{List, [], _∷_, map}
 use lib.ListN.{length, getD, take}
 use lib.Dec.{eqb}
+use Rattle.state.specs.declared.place.Span.{Span}
 use Rattle.state.specs.declared.answer.Kind.{Kind}
 use Rattle.state.specs.declared.answer.Answer.{Answer}
 use Rattle.state.specs.declared.run.Reader.{Reader}
+use Rattle.state.specs.Place.{span}
 use Rattle.state.specs.Values.{kindNumber, valuesOf, endsRun}
 use Rattle.demands.specs.Run.{World}
 use Rattle.capi.specs.declared.slots.Held.{Held}
@@ -52,6 +54,13 @@ heardEnding x = endsRun (x .number)
 
 abbrev pub namesOpen : Host → ℕ
 namesOpen h = getD (h .state) 2 0
+
+-- the piece of an answer in its fourth and fifth slot, and where the reader stands in the state's second slot
+abbrev pub heardPiece : Heard → Span
+heardPiece x = span (getD (x .slots) 3 0) (getD (x .slots) 4 0)
+
+abbrev pub standsAt : Host → ℕ
+standsAt h = getD (h .state) 1 0
 
 -- the slots of a state hold this reader
 abbrev pub Holds : List ℕ → Reader → Type 0

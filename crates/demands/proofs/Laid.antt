@@ -31,9 +31,11 @@ use Rattle.reader.proofs.Outside.{Spent}
 use Rattle.reader.proofs.Passed.{textFrom}
 use Rattle.demands.specs.Run.{World, said, call, run, AtRest}
 use Rattle.demands.specs.Answers.{isEof, isUnclosed, isEnding, count, oneIs}
-use Rattle.demands.specs.Laid.{What, Laid, laid, skips, skippedBefore, layout, pieces, Chained, In, OnlyWhite, isPiece, piecesIn, holds}
+use Rattle.demands.specs.Calls.{Promise, Advances, Calls}
+use Rattle.demands.specs.Laid.{What, Laid, laid, skips, skippedBefore, layout, pieces, Chained, In, OnlyWhite, isPiece, piecesIn, holds, SetOnce}
 use Rattle.demands.proofs.Clauses.{setting}
 use Rattle.demands.proofs.Demand1.{turn, no-init-after-a-call, stays}
+use Rattle.demands.proofs.Joined.{what-holds-of-a-run-holds-of-calls}
 use Rattle.demands.proofs.Unclosed.{the-mark-after-a-call, after-eof, nor-second}
 
 -- ---- lists of parts
@@ -52,6 +54,13 @@ chained-up : (a b : ℕ) (xs : List Laid) → Chained a xs b → a ≤ b
 unfolding Chained
 chained-up a b [] e = omega arith
 chained-up a b (x ∷ xs) h = omega (arith, h .0, h .1, chained-up (x .span .to) b xs (h .2))
+
+in-order : (to : ℕ) (before between behind : List Laid) (x y : Laid) → Chained 0 (before ++ (x ∷ (between ++ (y ∷ behind)))) to → x .span .to ≤ y .span .from
+unfolding Chained
+in-order to before between behind x y h =
+    let later = chained-parts 0 to before (x ∷ (between ++ (y ∷ behind))) h .2 in
+    let last = chained-parts (x .span .to) to between (y ∷ behind) (later .2) in
+    omega (arith, chained-up (x .span .to) (last .0) between (last .1), last .2 .0)
 
 chained-skips : (what : What) (from to : ℕ) → from ≤ to → Chained from (skips what from to) to
 unfolding Chained
@@ -134,14 +143,13 @@ no-pieces-before doc [] to =
     ∙ no-pieces What.WhiteSpace (begin doc) to refl
 no-pieces-before doc (p ∷ before) to = no-pieces What.WhiteSpace (p .to) to refl
 
--- THEOREM: of any pieces, the parts that are pieces are these, in the order in which they were given
-pub the-pieces-laid-out-are-those-given : (doc : List ℕ) (ps : List Span) → piecesIn (layout doc ps) ≡ reverse ps
+pieces-laid : (doc : List ℕ) (ps : List Span) → piecesIn (layout doc ps) ≡ reverse ps
 unfolding layout piecesIn
-the-pieces-laid-out-are-those-given doc [] = refl
-the-pieces-laid-out-are-those-given doc (p ∷ before) =
+pieces-laid doc [] = refl
+pieces-laid doc (p ∷ before) =
     pieces-append (layout doc before) (skippedBefore doc before (p .from) ++ laid What.Piece p ∷ [])
     ∙ ap (λ (ps : List Span). piecesIn (layout doc before) ++ ps) (pieces-append (skippedBefore doc before (p .from)) _ ∙ ap (λ (ps : List Span). ps ++ p ∷ []) (no-pieces-before doc before (p .from)))
-    ∙ ap (λ (ps : List Span). ps ++ p ∷ []) (the-pieces-laid-out-are-those-given doc before)
+    ∙ ap (λ (ps : List Span). ps ++ p ∷ []) (pieces-laid doc before)
     ∙ sym (reverse-cons p before)
 
 -- ---- a run
@@ -187,38 +195,15 @@ module _ (doc stack : List ℕ) (c : Config) (short : length doc ≤ longest) wh
       let t = turn doc stack c short n in
       rw (t .left) (chained-skips What.WhiteSpace (piece n .to) (piece (suc n) .from) (omega (arith, t .left, turn doc stack c short (suc n) .after)))
 
-  -- THEOREM: the parts follow each other from 0 to the position, without gap or overlap
-  pub the-parts-follow-each-other-up-to-the-position : (n : ℕ) → Chained 0 (parts n) (position n)
+  -- the parts of n calls reach the position
+  reach : (n : ℕ) → Chained 0 (parts n) (position n)
   unfolding run call fresh layout Chained
-  the-parts-follow-each-other-up-to-the-position zero = refl
-  the-parts-follow-each-other-up-to-the-position (suc n) =
+  reach zero = refl
+  reach (suc n) =
       let t = turn doc stack c short n in
-      chained-append 0 (position n) (position (suc n)) (parts n) _ (the-parts-follow-each-other-up-to-the-position n)
+      chained-append 0 (position n) (position (suc n)) (parts n) _ (reach n)
       (chained-append (position n) (piece n .from) (position (suc n)) (skippedBefore doc (pieces (after n .answers)) (piece n .from)) _ (between n)
       (refl, t .ordered, sym (t .left)))
-
-  -- THEOREM: so every byte before the position is in exactly one part, and no other byte is in any
-  module _ (n place : ℕ) where
-    pub every-byte-before-the-position-is-in-one-part : place < position n → count (holds place) (parts n) ≡ 1
-    every-byte-before-the-position-is-in-one-part h = once-within place 0 (position n) (parts n) (the-parts-follow-each-other-up-to-the-position n) (omega arith) h
-
-    pub no-other-byte-is-in-a-part : position n ≤ place → count (holds place) (parts n) ≡ 0
-    no-other-byte-is-in-a-part h = none-behind place 0 (position n) (parts n) (the-parts-follow-each-other-up-to-the-position n) h
-
-  -- THEOREM: and no part begins before an earlier one ends
-  pub no-part-begins-before-an-earlier-one-ends : (n : ℕ) (before between behind : List Laid) (x y : Laid)
-      → parts n ≡ before ++ (x ∷ (between ++ (y ∷ behind))) → x .span .to ≤ y .span .from
-  unfolding Chained
-  no-part-begins-before-an-earlier-one-ends n before between behind x y e =
-      let all : Chained 0 (before ++ (x ∷ (between ++ (y ∷ behind)))) (position n) =
-      subst (λ (xs : List Laid). Chained 0 xs (position n)) e (the-parts-follow-each-other-up-to-the-position n) in
-      let later = chained-parts 0 (position n) before (x ∷ (between ++ (y ∷ behind))) all .2 in
-      let last = chained-parts (x .span .to) (position n) between (y ∷ behind) (later .2) in
-      omega (arith, chained-up (x .span .to) (last .0) between (last .1), last .2 .0)
-
-  -- THEOREM: each part that is a piece is the piece of one answer, in the order of the calls
-  pub each-piece-is-that-of-one-answer-in-order : (n : ℕ) → piecesIn (parts n) ≡ reverse (pieces (after n .answers))
-  each-piece-is-that-of-one-answer-in-order n = the-pieces-laid-out-are-those-given doc (pieces (after n .answers))
 
   -- what a part is called, it is
   abbrev Is : What → Span → Type 0
@@ -265,14 +250,18 @@ module _ (doc stack : List ℕ) (c : Config) (short : length doc ≤ longest) wh
       by (inl i) earlier = earlier i
       by (inr i) earlier = now (in-append x (skippedBefore doc (pieces (after n .answers)) (piece n .from)) _ i)
 
-  module _ (n : ℕ) (s : Span) where
-    -- THEOREM: a part that is white space holds white space only, and there is none unless `trim_text_start` is on
-    pub skipped-white-space-is-white-and-asked-for : In (laid What.WhiteSpace s) (parts n) → (c .«trim_text_start» ≡ true) × OnlyWhite doc s
-    skipped-white-space-is-white-and-asked-for h = each-is n (laid What.WhiteSpace s) h
-
-    -- THEOREM: one that is a byte order mark stands at 0, and holds EF BB BF
-    pub a-byte-order-mark-stands-at-the-start : In (laid What.ByteOrderMark s) (parts n) → (s ≡ span 0 3) × (bytes doc s ≡ bom)
-    a-byte-order-mark-stands-at-the-start h = each-is n (laid What.ByteOrderMark s) h
+  -- THEOREM: no byte is set twice and none is dropped
+  pub each-byte-is-set-once : (n : ℕ) → SetOnce doc c (pieces (after n .answers)) (position n)
+  each-byte-is-set-once n =
+      record {
+        follow = reach n;
+        once = λ place h. once-within place 0 (position n) (parts n) (reach n) (omega arith) h;
+        ahead = λ place h. none-behind place 0 (position n) (parts n) (reach n) h;
+        order = λ before between behind x y e. in-order (position n) before between behind x y (subst (λ (xs : List Laid). Chained 0 xs (position n)) e (reach n));
+        mark = λ s h. each-is n (laid What.ByteOrderMark s) h;
+        white = λ s h. each-is n (laid What.WhiteSpace s) h;
+        each = pieces-laid doc (pieces (after n .answers));
+      }
 
   -- ---- the end
 
@@ -292,11 +281,11 @@ module _ (doc stack : List ℕ) (c : Config) (short : length doc ≤ longest) wh
   pub at-eof-the-position-is-the-length : (n : ℕ) → oneIs isEof (after n .answers) ≡ true → oneIs isEnding (after n .answers) ≡ false → position n ≡ length doc
   at-eof-the-position-is-the-length n eof none = spent n (after-eof doc stack c short n eof .0) none
 
-  -- THEOREM: so every byte of the document is in exactly one part: no byte set twice, none dropped
-  pub at-eof-every-byte-is-in-one-part : (n : ℕ) → oneIs isEof (after n .answers) ≡ true → oneIs isEnding (after n .answers) ≡ false
-      → (place : ℕ) → place < length doc → count (holds place) (parts n) ≡ 1
-  at-eof-every-byte-is-in-one-part n eof none place h =
-      every-byte-before-the-position-is-in-one-part n place (rw (at-eof-the-position-is-the-length n eof none) h)
+  -- THEOREM: so every byte of the document is in exactly one part
+  pub at-eof-every-byte-of-the-document-is-set : (n : ℕ) → oneIs isEof (after n .answers) ≡ true → oneIs isEnding (after n .answers) ≡ false
+      → SetOnce doc c (pieces (after n .answers)) (length doc)
+  at-eof-every-byte-of-the-document-is-set n eof none =
+      subst (SetOnce doc c (pieces (after n .answers))) (at-eof-the-position-is-the-length n eof none) (each-byte-is-set-once n)
 
   -- THEOREM: after a refusal that ends the run every call answers Eof and changes nothing: the position stays where the refused piece ends, and what lies behind
   -- it is left
@@ -316,3 +305,20 @@ module _ (doc stack : List ℕ) (c : Config) (short : length doc ≤ longest) wh
     unfolding run call
     the-position-stays-where-the-refused-piece-ends k =
         ap (λ (r : Reader). r .position .0) (after-a-refusal-that-ends-the-run-all-stays k .reader) ∙ turn doc stack c short n .left
+
+-- ---- calls
+
+module _ (Kept : Promise) (advances : Advances Kept) (doc stack : List ℕ) (c : Config) {n : ℕ} {w : World} (calls : Calls Kept doc stack c n w) where
+  -- THEOREM: the same over calls of a function that keeps the promise of `advance`
+  pub each-byte-is-set-once-over-calls : SetOnce doc c (pieces (w .answers)) (w .reader .position .0)
+  each-byte-is-set-once-over-calls =
+      what-holds-of-a-run-holds-of-calls Kept advances doc stack c (λ (v : World). SetOnce doc c (pieces (v .answers)) (v .reader .position .0)) calls
+      (λ short. each-byte-is-set-once doc stack c short n)
+
+  -- THEOREM: and at Eof, unless a refusal ended the run, over the whole document
+  pub at-eof-every-byte-of-the-document-is-set-over-calls : oneIs isEof (w .answers) ≡ true → oneIs isEnding (w .answers) ≡ false
+      → (w .reader .position .0 ≡ length doc) × SetOnce doc c (pieces (w .answers)) (length doc)
+  at-eof-every-byte-of-the-document-is-set-over-calls =
+      what-holds-of-a-run-holds-of-calls Kept advances doc stack c
+      (λ (v : World). oneIs isEof (v .answers) ≡ true → oneIs isEnding (v .answers) ≡ false → (v .reader .position .0 ≡ length doc) × SetOnce doc c (pieces (v .answers)) (length doc)) calls
+      (λ short eof none. (at-eof-the-position-is-the-length doc stack c short n eof none, at-eof-every-byte-of-the-document-is-set doc stack c short n eof none))

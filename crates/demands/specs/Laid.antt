@@ -1,18 +1,21 @@
--- What became of the bytes of a document (request M-113): the pieces of the answers, and what was skipped before each, laid out in order.
+-- NO BYTE SET TWICE, NONE DROPPED (document 02, M-113): what became of the bytes of a document, told by the pieces of the answers.
 use Prim.Native.Nat.{ℕ, _≤_, _<_}
 use mathlib.Core.Path.{_≡_}
 use mathlib.Core.Logic.{_⊎_}
 use mathlib.Core.Bool.{Bool, true, false}
-use mathlib.Core.List.{List, [], _∷_, _++_, map}
+use mathlib.Core.List.{List, [], _∷_, _++_, map, reverse}
 use lib.ListN.{getD}
 use lib.Dec.{leb, ltb}
 use Rattle.ground.specs.Choose.{pick, allOf}
 use Rattle.white.specs.White.{isWhite}
 use Rattle.state.specs.declared.place.Span.{Span}
+use Rattle.state.specs.declared.config.Config.{Config}
 use Rattle.state.specs.declared.answer.Answer.{Answer}
 use Rattle.state.specs.Place.{span}
 use Rattle.state.specs.Values.{valuesOf}
-use Rattle.reader.specs.Step.{begin}
+use Rattle.reader.specs.Names.{bytes}
+use Rattle.reader.specs.Step.{bom, begin}
+use Rattle.demands.specs.Answers.{count}
 
 -- "the byte order mark, white space skipped by `trim_text_start`, or the piece of one answer"
 pub data What : Type 0 where
@@ -76,3 +79,19 @@ piecesIn (x ∷ rest) = pick (isPiece (x .what)) (x .span ∷ piecesIn rest) (pi
 -- the byte at a place is one of a part's
 abbrev pub holds : ℕ → Laid → Bool
 holds place x = allOf (leb (x .span .from) place ∷ ltb place (x .span .to) ∷ [])
+
+-- THE STATEMENT of a document that was read with these settings, by answers with these pieces, the latest first, up to this position
+pub record SetOnce (doc : List ℕ) (c : Config) (answered : List Span) (position : ℕ) : Type 0 where
+  -- the parts follow each other from 0 to the position, without gap or overlap
+  pub follow : Chained 0 (layout doc answered) position
+  -- "each byte before the position is in exactly one" of them, and no other byte is in any
+  pub once : (place : ℕ) → place < position → count (holds place) (layout doc answered) ≡ 1
+  pub ahead : (place : ℕ) → position ≤ place → count (holds place) (layout doc answered) ≡ 0
+  -- "no piece starts before an earlier one ends", nor does any part
+  pub order : (before between behind : List Laid) (x y : Laid) → layout doc answered ≡ before ++ (x ∷ (between ++ (y ∷ behind))) → x .span .to ≤ y .span .from
+  -- the byte order mark stands at 0 if at all, and is EF BB BF
+  pub mark : (s : Span) → In (laid What.ByteOrderMark s) (layout doc answered) → (s ≡ span 0 3) × (bytes doc s ≡ bom)
+  -- what was skipped as white space is nothing else, and nothing is skipped unless `trim_text_start` is on
+  pub white : (s : Span) → In (laid What.WhiteSpace s) (layout doc answered) → (c .«trim_text_start» ≡ true) × OnlyWhite doc s
+  -- the parts that are pieces are those of the answers, one for each, in the order of the calls
+  pub each : piecesIn (layout doc answered) ≡ reverse answered

@@ -6,5 +6,6 @@ pub mod Growing
 pub mod Laid
 pub mod Open
 pub mod Openings
+pub mod Sheets
 pub mod Table
 pub mod Tags
