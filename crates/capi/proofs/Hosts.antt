@@ -3,7 +3,7 @@ use Prim.Native.Nat.{ℕ, zero, suc, _+_, _≤_}
 use native.Mathlib.Omega.{arith}
 use mathlib.Core.Path.{_≡_, refl, sym, ap, ap₂, _∙_, subst}
 use mathlib.Core.Bool.{Bool, true, false}
-use mathlib.Core.List.{List, [], _∷_, map}
+use mathlib.Core.List.{List, [], _∷_, _++_, map}
 use lib.ListN.{length, getD, take, replicate}
 use lib.Seq.{getD-take}
 use lib.Dec.{eqb}
@@ -23,7 +23,7 @@ use Rattle.demands.specs.Laid.{pieces, SetOnce}
 use Rattle.demands.specs.Run.{World, said, call, run}
 use Rattle.demands.proofs.Demand3.{starts-are-ends-mismatches-and-open, as-many-as-the-depth}
 use Rattle.demands.proofs.Joined.{latest-eof}
-use Rattle.demands.proofs.Laid.{each-byte-is-set-once, at-eof-the-position-is-the-length}
+use Rattle.demands.proofs.Laid.{each-byte-is-set-once, at-eof-the-position-is-the-length, a-refusal-that-ended-the-run-leaves-what-is-behind-it}
 use Rattle.demands.proofs.Unclosed.{a-page-that-ends-with-eof-and-no-refusal-is-whole}
 use Rattle.capi.specs.Numbers.{configOf, valuesNumbers, answerSlots}
 use Rattle.capi.specs.Slots.{put}
@@ -92,18 +92,33 @@ module _ (x : Heard) (a : Answer) (e : numbersHeard x ≡ numbersTold a) where
   same-ending : heardEnding x ≡ isEnding a
   same-ending = ap (λ (vs : List ℕ). endsRun (getD vs 0 0)) e
 
--- the piece is told by the fifth and the sixth of the numbers
-abbrev pieceIn : List ℕ → Span
-pieceIn numbers = span (getD numbers 4 0) (getD numbers 5 0)
+  same-piece : heardPiece x ≡ valuesOf a .piece
+  unfolding valuesNumbers
+  same-piece =
+      sym (ap₂ span (getD-take answerSlots (x .slots) 3 0 (omega arith)) (getD-take answerSlots (x .slots) 4 0 (omega arith)))
+      ∙ ap (λ (vs : List ℕ). span (getD vs 4 0) (getD vs 5 0)) e
 
-pieces-heard : (xs : List Heard) → map heardPiece xs ≡ map pieceIn (map numbersHeard xs)
-pieces-heard [] = refl
-pieces-heard (x ∷ xs) = ap₂ _∷_ (sym (ap₂ span (getD-take answerSlots (x .slots) 3 0 (omega arith)) (getD-take answerSlots (x .slots) 4 0 (omega arith)))) (pieces-heard xs)
+pieces-heard : (xs : List Heard) (answers : List Answer) → map numbersHeard xs ≡ map numbersTold answers → map heardPiece xs ≡ pieces answers
+pieces-heard [] [] e = refl
+pieces-heard [] (a ∷ before) e = let z : _≡_ {A = ℕ} 0 1 = cc in absurd (omega arith)
+pieces-heard (x ∷ xs) [] e = let z : _≡_ {A = ℕ} 0 1 = cc in absurd (omega arith)
+pieces-heard (x ∷ xs) (a ∷ before) e = ap₂ _∷_ (same-piece x a (cc)) (pieces-heard xs before (cc))
 
-pieces-told : (answers : List Answer) → pieces answers ≡ map pieceIn (map numbersTold answers)
-unfolding valuesNumbers
-pieces-told [] = refl
-pieces-told (a ∷ before) = ap (λ (ps : List Span). valuesOf a .piece ∷ ps) (pieces-told before)
+-- the answer of which a host was told something
+record ToldAt (x : Heard) (answers : List Answer) : Type 0 where
+  later : List Answer
+  answer : Answer
+  before : List Answer
+  split : answers ≡ later ++ (answer ∷ before)
+  same : numbersHeard x ≡ numbersTold answer
+
+told-at : (x : Heard) (before later : List Heard) (answers : List Answer) → map numbersHeard (later ++ (x ∷ before)) ≡ map numbersTold answers → ToldAt x answers
+told-at x before [] [] e = let z : _≡_ {A = ℕ} 0 1 = cc in absurd (omega arith)
+told-at x before [] (a ∷ answers) e = record { later = []; answer = a; before = answers; split = refl; same = cc }
+told-at x before (y ∷ later) [] e = let z : _≡_ {A = ℕ} 0 1 = cc in absurd (omega arith)
+told-at x before (y ∷ later) (a ∷ answers) e =
+    let t = told-at x before later answers (cc) in
+    record { later = a ∷ t .later; answer = t .answer; before = t .before; split = ap (λ (others : List Answer). a ∷ others) (t .split); same = t .same }
 
 -- ---- the demands, in the numbers that a host hears
 
@@ -161,7 +176,7 @@ module _ (doc stack : List ℕ) (settings : ℕ) {n : ℕ} {h : Host} (calls : H
       (none, λ off. omega (arith, none, a-host's-starts-are-ends-mismatches-and-open off))
 
   same-pieces : map heardPiece (h .heard) ≡ pieces (w .answers)
-  same-pieces = pieces-heard (h .heard) ∙ ap (map pieceIn) (follows .heard) ∙ sym (pieces-told (w .answers))
+  same-pieces = pieces-heard (h .heard) (w .answers) (follows .heard)
 
   same-position : standsAt h ≡ w .reader .position .0
   same-position = ap (λ (r : Reader). r .position .0) (holds (h .state) (w .reader) (follows .state) .3)
@@ -177,3 +192,12 @@ module _ (doc stack : List ℕ) (settings : ℕ) {n : ℕ} {h : Host} (calls : H
       ∙ at-eof-the-position-is-the-length doc stack (configOf settings) short n
       (sym (heard-kind Kind.Eof .2) ∙ eof)
       (sym (same-told heardEnding isEnding same-ending (h .heard) (w .answers) (follows .heard) .2) ∙ ending)
+
+  -- THEOREM: where one of those ended the run, it stands at the end of its piece
+  pub a-refusal-that-ended-the-run-leaves-a-host-what-is-behind-it : (later before : List Heard) (x : Heard)
+      → h .heard ≡ later ++ (x ∷ before) → heardEnding x ≡ true → standsAt h ≡ heardPiece x .to
+  a-refusal-that-ended-the-run-leaves-a-host-what-is-behind-it later before x e ending =
+      let t = told-at x before later (w .answers) (ap (map numbersHeard) (sym e) ∙ follows .heard) in
+      same-position
+      ∙ a-refusal-that-ended-the-run-leaves-what-is-behind-it doc stack (configOf settings) short n (t .later) (t .before) (t .answer) (t .split) (sym (same-ending x (t .answer) (t .same)) ∙ ending)
+      ∙ sym (ap (λ (s : Span). s .to) (same-piece x (t .answer) (t .same)))

@@ -30,7 +30,7 @@ use Rattle.reader.specs.Step.{stepIn, stepPhase, step}
 use Rattle.reader.proofs.Outside.{Turned, rankAt, due, step-turn, call-numbers}
 use Rattle.reader.proofs.Rooms.{bad-step, any-state}
 use Rattle.demands.specs.Run.{World, said, call, run, AtRest}
-use Rattle.demands.specs.Answers.{AnEvent, ARefusal, isEof, isBadState}
+use Rattle.demands.specs.Answers.{AnEvent, ARefusal, isEof, isBadState, oneIs}
 use Rattle.demands.specs.Open.{newest}
 use Rattle.demands.proofs.Held.{written-length, held-sound, held-turn, run-held}
 
@@ -224,9 +224,9 @@ module _ (doc stack : List ℕ) (c : Config) (short : length doc ≤ longest) wh
       unfolding run call written ended told
       rest-stack = ap (λ (s : Step). written (after n .stack) (after n .reader .depth .0) (s .answer)) rests
 
-  pub stays : (n : ℕ) → after n .reader .phase ≡ Phase.Done → after n .reader .mark ≡ true → (k : ℕ) → AtRest doc (after n) (after (k + n))
-  stays n done on zero = rw (zero-add n) (record { says = rest-says n done on; reader = refl; stack = refl })
-  stays n done on (suc k) = rw (suc-add k n) (onward (stays n done on k))
+  pub done-and-marked-stays : (n : ℕ) → after n .reader .phase ≡ Phase.Done → after n .reader .mark ≡ true → (k : ℕ) → AtRest doc (after n) (after (k + n))
+  done-and-marked-stays n done on zero = rw (zero-add n) (record { says = rest-says n done on; reader = refl; stack = refl })
+  done-and-marked-stays n done on (suc k) = rw (suc-add k n) (onward (done-and-marked-stays n done on k))
     where
       onward : AtRest doc (after n) (after (k + n)) → AtRest doc (after n) (after (suc (k + n)))
       onward x =
@@ -251,4 +251,15 @@ module _ (doc stack : List ℕ) (c : Config) (short : length doc ≤ longest) wh
 
   -- THEOREM: from an Eof on every call answers Eof and changes nothing
   pub eof-stays : (n : ℕ) → isEof (said doc (after n)) ≡ true → (k : ℕ) → AtRest doc (after (suc n)) (after (k + suc n))
-  eof-stays n e k = let d = eof-done n e in stays (suc n) (d .0) (d .1) k
+  eof-stays n e k = let d = eof-done n e in done-and-marked-stays (suc n) (d .0) (d .1) k
+
+  -- after an Eof the reader is done, and its mark is on
+  pub after-eof : (n : ℕ) → oneIs isEof (after n .answers) ≡ true → (after n .reader .phase ≡ Phase.Done) × (after n .reader .mark ≡ true)
+  unfolding run call oneIs
+  after-eof zero e = clash false e refl
+  after-eof (suc n) e =
+      pick-cases (λ (b : Bool). b ≡ true → (after (suc n) .reader .phase ≡ Phase.Done) × (after (suc n) .reader .mark ≡ true)) (isEof (said doc (after n))) true (oneIs isEof (after n .answers))
+      (λ e _. eof-done n e)
+      (λ _ e. let d = after-eof n e in let same = rest-reader n (d .0) (d .1) in
+      (ap (λ (r : Reader). r .phase) same ∙ d .0, ap (λ (r : Reader). r .mark) same ∙ d .1))
+      e

@@ -6,37 +6,52 @@ use mathlib.Core.Logic.{_⊎_, inl, inr}
 use mathlib.Core.Bool.{Bool, true, false}
 use mathlib.Core.List.{List, [], _∷_, _++_, reverse, reverse-cons}
 use native.Mathlib.Omega.{arith}
-use lib.ListN.{length, take, drop}
-use lib.Seq.{take-at}
+use lib.ListN.{length}
 use lib.Dec.{ltb, leb}
 use borrow.Author.Tests.{le-leb, lt-leb, lt-ltb, le-ltb, ltb-true, ltb-false}
 use Rattle.ground.specs.Choose.{pick}
 use Rattle.ground.specs.Equal.{begins}
-use Rattle.ground.specs.Part.{part}
-use Rattle.ground.proofs.Choices.{pick-cases, clash}
-use Rattle.ground.proofs.Equal.{begins-is, begins-long}
-use Rattle.ground.proofs.Lists.{part-in}
+use Rattle.ground.proofs.Choices.{pick-cases, pick-either, pick-neither, clash}
+use Rattle.white.specs.White.{WhiteWithin}
 use Rattle.state.specs.declared.place.Span.{Span}
 use Rattle.state.specs.declared.config.Config.{Config}
 use Rattle.state.specs.declared.answer.Answer.{Answer}
 use Rattle.state.specs.declared.run.Phase.{Phase}
 use Rattle.state.specs.declared.run.Reader.{Reader}
+use Rattle.state.specs.declared.run.Step.{Step}
 use Rattle.state.specs.Limits.{longest}
 use Rattle.state.specs.Place.{span}
 use Rattle.state.specs.Values.{valuesOf}
-use Rattle.state.specs.Make.{fresh}
+use Rattle.state.specs.Make.{fresh, badState}
 use Rattle.reader.specs.Names.{bytes}
-use Rattle.reader.specs.Step.{bom, begin}
-use Rattle.reader.proofs.Outside.{Spent}
-use Rattle.reader.proofs.Passed.{textFrom}
+use Rattle.reader.specs.Left.{Left}
+use Rattle.reader.specs.Step.{bom, begin, step}
+use Rattle.reader.proofs.Outside.{Spent, not-done, step-turn}
+use Rattle.reader.proofs.Rooms.{any-state}
+use Rattle.reader.proofs.Passed.{skipFrom, skips-here, bom-bytes}
 use Rattle.demands.specs.Run.{World, said, call, run, AtRest}
 use Rattle.demands.specs.Answers.{isEof, isUnclosed, isEnding, count, oneIs}
 use Rattle.demands.specs.Calls.{Promise, Advances, Calls}
-use Rattle.demands.specs.Laid.{What, Laid, laid, skips, skippedBefore, layout, pieces, Chained, In, OnlyWhite, isPiece, piecesIn, holds, SetOnce}
+use Rattle.demands.specs.Laid.{What, Laid, laid, gap, skippedBefore, layout, pieces, Chained, AmongParts, isPiece, piecesIn, hasByte, timesSet, SetOnce}
 use Rattle.demands.proofs.Clauses.{setting}
-use Rattle.demands.proofs.Demand1.{turn, no-init-after-a-call, stays}
+use Rattle.demands.proofs.Demand1.{turn, no-init-after-a-call, rest-reader, done-and-marked-stays, after-eof}
 use Rattle.demands.proofs.Joined.{what-holds-of-a-run-holds-of-calls}
-use Rattle.demands.proofs.Unclosed.{the-mark-after-a-call, after-eof, nor-second}
+use Rattle.demands.proofs.Unclosed.{marks-when-told}
+
+-- ---- any state
+
+-- THEOREM: a refusal leaves the reader at the end of its piece, and that where document 01 says for its number; 18 leaves it where the Eof does that it replaces
+pub where-a-refusal-leaves-the-reader : (doc stack : List ℕ) (r : Reader)
+    → 0 < valuesOf (step doc stack r .answer) .number → valuesOf (step doc stack r .answer) .number ≤ 15
+    → (step doc stack r .reader .position .0 ≡ valuesOf (step doc stack r .answer) .piece .to)
+    × Left doc (valuesOf (step doc stack r .answer) .number) (valuesOf (step doc stack r .answer) .piece)
+unfolding badState
+where-a-refusal-leaves-the-reader doc stack r =
+    any-state doc stack r
+    (λ (s : Step). 0 < valuesOf (s .answer) .number → valuesOf (s .answer) .number ≤ 15
+    → (s .reader .position .0 ≡ valuesOf (s .answer) .piece .to) × Left doc (valuesOf (s .answer) .number) (valuesOf (s .answer) .piece))
+    (λ ok some few. let t = step-turn doc stack r ok in (t .left, t .refusal some few))
+    (λ some few. absurd (omega arith))
 
 -- ---- lists of parts
 
@@ -62,58 +77,58 @@ in-order to before between behind x y h =
     let last = chained-parts (x .span .to) to between (y ∷ behind) (later .2) in
     omega (arith, chained-up (x .span .to) (last .0) between (last .1), last .2 .0)
 
-chained-skips : (what : What) (from to : ℕ) → from ≤ to → Chained from (skips what from to) to
+chained-gap : (what : What) (from to : ℕ) → from ≤ to → Chained from (gap what from to) to
 unfolding Chained
-chained-skips what from to h =
+chained-gap what from to h =
     pick-cases (λ (xs : List Laid). Chained from xs to) (ltb from to) _ _
     (λ _. (refl, h, refl))
     (λ e. omega (arith, ltb-false from to e))
 
 -- how often a place stands in parts that follow each other
 module _ (place : ℕ) where
-  holds-one : (x : Laid) → x .span .from ≤ place → place < x .span .to → holds place x ≡ true
-  holds-one x h k = rw (le-leb _ _ h, lt-ltb _ _ k)
+  has-it : (s : Span) → s .from ≤ place → place < s .to → hasByte place s ≡ true
+  has-it s h k = rw (le-leb _ _ h, lt-ltb _ _ k)
 
-  holds-before : (x : Laid) → place < x .span .from → holds place x ≡ false
-  holds-before x h = rw (lt-leb _ _ h)
+  not-before : (s : Span) → place < s .from → hasByte place s ≡ false
+  not-before s h = rw (lt-leb _ _ h)
 
-  holds-behind : (x : Laid) → x .span .to ≤ place → holds place x ≡ false
-  holds-behind x h = pick-cases (λ (b : Bool). b ≡ false) (leb (x .span .from) place) _ _ (λ _. rw (le-ltb place (x .span .to) h)) (λ _. refl)
+  not-behind : (s : Span) → s .to ≤ place → hasByte place s ≡ false
+  not-behind s h = pick-cases (λ (b : Bool). b ≡ false) (leb (s .from) place) _ _ (λ _. rw (le-ltb place (s .to) h)) (λ _. refl)
 
-  none-before : (a b : ℕ) (xs : List Laid) → Chained a xs b → place < a → count (holds place) xs ≡ 0
+  none-before : (a b : ℕ) (xs : List Laid) → Chained a xs b → place < a → timesSet place xs ≡ 0
   unfolding Chained count
   none-before a b [] h l = refl
-  none-before a b (x ∷ xs) h l = rw (holds-before x (omega (arith, h .0)), none-before (x .span .to) b xs (h .2) (omega (arith, h .0, h .1)))
+  none-before a b (x ∷ xs) h l = rw (not-before (x .span) (omega (arith, h .0)), none-before (x .span .to) b xs (h .2) (omega (arith, h .0, h .1)))
 
-  none-behind : (a b : ℕ) (xs : List Laid) → Chained a xs b → b ≤ place → count (holds place) xs ≡ 0
+  none-behind : (a b : ℕ) (xs : List Laid) → Chained a xs b → b ≤ place → timesSet place xs ≡ 0
   unfolding Chained count
   none-behind a b [] h l = refl
-  none-behind a b (x ∷ xs) h l = rw (holds-behind x (omega (arith, chained-up (x .span .to) b xs (h .2))), none-behind (x .span .to) b xs (h .2) l)
+  none-behind a b (x ∷ xs) h l = rw (not-behind (x .span) (omega (arith, chained-up (x .span .to) b xs (h .2))), none-behind (x .span .to) b xs (h .2) l)
 
-  once-within : (a b : ℕ) (xs : List Laid) → Chained a xs b → a ≤ place → place < b → count (holds place) xs ≡ 1
+  once-within : (a b : ℕ) (xs : List Laid) → Chained a xs b → a ≤ place → place < b → timesSet place xs ≡ 1
   unfolding Chained count
   once-within a b [] h l k = absurd (omega arith)
   once-within a b (x ∷ xs) h l k = by (ltb place (x .span .to)) refl (once-within (x .span .to) b xs (h .2))
     where
-      by : (t : Bool) → ltb place (x .span .to) ≡ t → (x .span .to ≤ place → place < b → count (holds place) xs ≡ 1)
-          → pick (holds place x) 1 0 + count (holds place) xs ≡ 1
-      by true e later = let i = ltb-true place _ e in rw (holds-one x (omega (arith, h .0)) i, none-before (x .span .to) b xs (h .2) i)
-      by false e later = let i = ltb-false place _ e in rw (holds-behind x i, later i k)
+      by : (t : Bool) → ltb place (x .span .to) ≡ t → (x .span .to ≤ place → place < b → timesSet place xs ≡ 1)
+          → pick (hasByte place (x .span)) 1 0 + timesSet place xs ≡ 1
+      by true e later = let i = ltb-true place _ e in rw (has-it (x .span) (omega (arith, h .0)) i, none-before (x .span .to) b xs (h .2) i)
+      by false e later = let i = ltb-false place _ e in rw (not-behind (x .span) i, later i k)
 
-in-append : (x : Laid) (xs ys : List Laid) → In x (xs ++ ys) → In x xs ⊎ In x ys
-unfolding In
-in-append x [] ys h = inr h
-in-append x (y ∷ xs) ys (inl e) = inl (inl e)
-in-append x (y ∷ xs) ys (inr h) = by (in-append x xs ys h)
+among-append : (x : Laid) (xs ys : List Laid) → AmongParts x (xs ++ ys) → AmongParts x xs ⊎ AmongParts x ys
+unfolding AmongParts
+among-append x [] ys h = inr h
+among-append x (y ∷ xs) ys (inl e) = inl (inl e)
+among-append x (y ∷ xs) ys (inr h) = by (among-append x xs ys h)
   where
-    by : In x xs ⊎ In x ys → ((x ≡ y) ⊎ In x xs) ⊎ In x ys
+    by : AmongParts x xs ⊎ AmongParts x ys → ((x ≡ y) ⊎ AmongParts x xs) ⊎ AmongParts x ys
     by (inl i) = inl (inr i)
     by (inr i) = inr i
 
-in-skips : (x : Laid) (what : What) (from to : ℕ) → In x (skips what from to) → (x ≡ laid what (span from to)) × (from < to)
-unfolding In
-in-skips x what from to =
-    pick-cases (λ (xs : List Laid). In x xs → (x ≡ laid what (span from to)) × (from < to)) (ltb from to) _ _
+among-gap : (x : Laid) (what : What) (from to : ℕ) → AmongParts x (gap what from to) → (x ≡ laid what (span from to)) × (from < to)
+unfolding AmongParts
+among-gap x what from to =
+    pick-cases (λ (xs : List Laid). AmongParts x xs → (x ≡ laid what (span from to)) × (from < to)) (ltb from to) _ _
     (λ e h. (first h, ltb-true from to e))
     (λ _ h. absurd h)
   where
@@ -131,15 +146,15 @@ pieces-append (x ∷ xs) ys = by (isPiece (x .what)) (pieces-append xs ys)
     by true e = ap (λ (ps : List Span). x .span ∷ ps) e
     by false e = e
 
-no-pieces : (what : What) (from to : ℕ) → isPiece what ≡ false → piecesIn (skips what from to) ≡ []
+no-pieces : (what : What) (from to : ℕ) → isPiece what ≡ false → piecesIn (gap what from to) ≡ []
 unfolding piecesIn
 no-pieces what from to e = pick-cases (λ (xs : List Laid). piecesIn xs ≡ []) (ltb from to) _ _ (λ _. rw e) (λ _. refl)
 
 no-pieces-before : (doc : List ℕ) (before : List Span) (to : ℕ) → piecesIn (skippedBefore doc before to) ≡ []
 unfolding piecesIn
 no-pieces-before doc [] to =
-    pieces-append (skips What.ByteOrderMark 0 (begin doc)) _
-    ∙ ap (λ (ps : List Span). ps ++ piecesIn (skips What.WhiteSpace (begin doc) to)) (no-pieces What.ByteOrderMark 0 (begin doc) refl)
+    pieces-append (gap What.ByteOrderMark 0 (begin doc)) _
+    ∙ ap (λ (ps : List Span). ps ++ piecesIn (gap What.WhiteSpace (begin doc) to)) (no-pieces What.ByteOrderMark 0 (begin doc) refl)
     ∙ no-pieces What.WhiteSpace (begin doc) to refl
 no-pieces-before doc (p ∷ before) to = no-pieces What.WhiteSpace (p .to) to refl
 
@@ -152,10 +167,30 @@ pieces-laid doc (p ∷ before) =
     ∙ ap (λ (ps : List Span). ps ++ p ∷ []) (pieces-laid doc before)
     ∙ sym (reverse-cons p before)
 
--- ---- a run
+-- a byte that is in no part but pieces is in as many parts as pieces
+times-in-pieces : (place : ℕ) (xs : List Laid) → ((x : Laid) → AmongParts x xs → isPiece (x .what) ≡ false → hasByte place (x .span) ≡ false)
+    → timesSet place xs ≡ count (hasByte place) (piecesIn xs)
+unfolding AmongParts piecesIn count
+times-in-pieces place [] other = refl
+times-in-pieces place (x ∷ xs) other = by (isPiece (x .what)) (other x (inl refl)) (times-in-pieces place xs (λ y i. other y (inr i)))
+  where
+    by : (t : Bool) → (t ≡ false → hasByte place (x .span) ≡ false) → timesSet place xs ≡ count (hasByte place) (piecesIn xs)
+        → pick (hasByte place (x .span)) 1 0 + timesSet place xs ≡ count (hasByte place) (pick t (x .span ∷ piecesIn xs) (piecesIn xs))
+    by true lacks e = ap (λ (n : ℕ). pick (hasByte place (x .span)) 1 0 + n) e
+    by false lacks e = rw (lacks refl) (omega arith)
 
-no-call-yet : Phase.Init ≡ Phase.Done → ⊥
-no-call-yet e = let z : _≡_ {A = ℕ} 0 1 = cc in omega arith
+module _ {A : Type 0} (is : A → Bool) where
+  count-append : (xs ys : List A) → count is (xs ++ ys) ≡ count is xs + count is ys
+  unfolding count
+  count-append [] ys = omega arith
+  count-append (x ∷ xs) ys = omega (arith, count-append xs ys)
+
+  count-reverse : (xs : List A) → count is (reverse xs) ≡ count is xs
+  unfolding count
+  count-reverse [] = refl
+  count-reverse (x ∷ xs) = ap (count is) (reverse-cons x xs) ∙ count-append (reverse xs) (x ∷ []) ∙ omega (arith, count-reverse xs)
+
+-- ---- a run
 
 module _ (doc stack : List ℕ) (c : Config) (short : length doc ≤ longest) where
   abbrev after : ℕ → World
@@ -173,27 +208,24 @@ module _ (doc stack : List ℕ) (c : Config) (short : length doc ≤ longest) wh
   parts n = layout doc (pieces (after n .answers))
 
   -- where white space may be skipped after a call
-  text-from : (n : ℕ) → textFrom doc (position (suc n)) (after (suc n) .reader .phase) ≡ piece n .to
+  skip-from-the-piece's-end : (n : ℕ) → skipFrom doc (position (suc n)) (after (suc n) .reader .phase) ≡ piece n .to
   unfolding run call
-  text-from n = by (after (suc n) .reader .phase) refl ∙ turn doc stack c short n .left
+  skip-from-the-piece's-end n = by (skips-here doc (position (suc n)) (after (suc n) .reader .phase)) ∙ turn doc stack c short n .left
     where
-      by : (p : Phase) → after (suc n) .reader .phase ≡ p → textFrom doc (position (suc n)) p ≡ position (suc n)
-      by Phase.Init e = absurd (no-init-after-a-call doc stack c short n e)
-      by Phase.InsideText e = refl
-      by Phase.InsideMarkup e = refl
-      by Phase.InsideRef e = refl
-      by Phase.InsideEmpty e = refl
-      by Phase.Done e = refl
+      by : (after (suc n) .reader .phase ≡ Phase.Init) ⊎ (skipFrom doc (position (suc n)) (after (suc n) .reader .phase) ≡ position (suc n))
+          → skipFrom doc (position (suc n)) (after (suc n) .reader .phase) ≡ position (suc n)
+      by (inl e) = absurd (no-init-after-a-call doc stack c short n e)
+      by (inr e) = e
 
-  between : (n : ℕ) → Chained (position n) (skippedBefore doc (pieces (after n .answers)) (piece n .from)) (piece n .from)
+  skipped-reaches : (n : ℕ) → Chained (position n) (skippedBefore doc (pieces (after n .answers)) (piece n .from)) (piece n .from)
   unfolding run call fresh
-  between zero =
-      chained-append 0 (begin doc) (piece zero .from) (skips What.ByteOrderMark 0 (begin doc)) _
-      (chained-skips What.ByteOrderMark 0 (begin doc) (omega arith))
-      (chained-skips What.WhiteSpace (begin doc) (piece zero .from) (turn doc stack c short zero .passed .after))
-  between (suc n) =
+  skipped-reaches zero =
+      chained-append 0 (begin doc) (piece zero .from) (gap What.ByteOrderMark 0 (begin doc)) _
+      (chained-gap What.ByteOrderMark 0 (begin doc) (omega arith))
+      (chained-gap What.WhiteSpace (begin doc) (piece zero .from) (turn doc stack c short zero .passed .after))
+  skipped-reaches (suc n) =
       let t = turn doc stack c short n in
-      rw (t .left) (chained-skips What.WhiteSpace (piece n .to) (piece (suc n) .from) (omega (arith, t .left, turn doc stack c short (suc n) .after)))
+      rw (t .left) (chained-gap What.WhiteSpace (piece n .to) (piece (suc n) .from) (omega (arith, t .left, turn doc stack c short (suc n) .after)))
 
   -- the parts of n calls reach the position
   reach : (n : ℕ) → Chained 0 (parts n) (position n)
@@ -202,80 +234,106 @@ module _ (doc stack : List ℕ) (c : Config) (short : length doc ≤ longest) wh
   reach (suc n) =
       let t = turn doc stack c short n in
       chained-append 0 (position n) (position (suc n)) (parts n) _ (reach n)
-      (chained-append (position n) (piece n .from) (position (suc n)) (skippedBefore doc (pieces (after n .answers)) (piece n .from)) _ (between n)
+      (chained-append (position n) (piece n .from) (position (suc n)) (skippedBefore doc (pieces (after n .answers)) (piece n .from)) _ (skipped-reaches n)
       (refl, t .ordered, sym (t .left)))
 
   -- what a part is called, it is
-  abbrev Is : What → Span → Type 0
-  Is What.ByteOrderMark s = (s ≡ span 0 3) × (bytes doc s ≡ bom)
-  Is What.WhiteSpace s = (c .«trim_text_start» ≡ true) × OnlyWhite doc s
-  Is What.Piece s = Unit {0}
+  abbrev Meant : What → Span → Type 0
+  Meant What.ByteOrderMark s = (s ≡ span 0 (begin doc)) × ((s ≡ span 0 3) × (bytes doc s ≡ bom))
+  Meant What.WhiteSpace s = (c .«trim_text_start» ≡ true) × WhiteWithin doc (s .from) (s .to)
+  Meant What.Piece s = Unit {0}
 
-  abbrev So : Laid → Type 0
-  So x = Is (x .what) (x .span)
+  abbrev AsNamed : Laid → Type 0
+  AsNamed x = Meant (x .what) (x .span)
 
-  mark-is : 0 < begin doc → Is What.ByteOrderMark (span 0 (begin doc))
+  bom-there : 0 < begin doc → (span 0 (begin doc) ≡ span 0 3) × (bytes doc (span 0 (begin doc)) ≡ bom)
   unfolding begin
-  mark-is =
-      pick-cases (λ (k : ℕ). 0 < k → Is What.ByteOrderMark (span 0 k)) (begins doc bom) _ _
-      (λ e _. (refl, part-in doc 0 3 (omega arith) (begins-long doc bom e) ∙ ap (take 3) (begins-is doc bom .0 e) ∙ take-at bom (drop 3 doc) 3 refl))
+  bom-there =
+      pick-cases (λ (k : ℕ). 0 < k → (span 0 k ≡ span 0 3) × (bytes doc (span 0 k) ≡ bom)) (begins doc bom) _ _
+      (λ e _. (refl, bom-bytes doc e))
       (λ _ h. absurd (omega arith))
 
-  white-is : (n from : ℕ) → textFrom doc (position n) (after n .reader .phase) ≡ from → from < piece n .from → Is What.WhiteSpace (span from (piece n .from))
+  bom-is : 0 < begin doc → Meant What.ByteOrderMark (span 0 (begin doc))
+  bom-is h = (refl, bom-there h)
+
+  white-is : (n from : ℕ) → skipFrom doc (position n) (after n .reader .phase) ≡ from → from < piece n .from → Meant What.WhiteSpace (span from (piece n .from))
   white-is n from e h =
       let p = turn doc stack c short n .passed in
       (sym (setting doc stack c short n (λ (s : Config). s .«trim_text_start») (c .«trim_text_start») refl) ∙ p .asked (omega arith), λ k i j. p .white k (omega arith) j)
 
-  skipped-is : (n : ℕ) (x : Laid) → In x (skippedBefore doc (pieces (after n .answers)) (piece n .from)) → So x
+  skipped-is : (n : ℕ) (x : Laid) → AmongParts x (skippedBefore doc (pieces (after n .answers)) (piece n .from)) → AsNamed x
   unfolding run call fresh
-  skipped-is zero x h = by (in-append x (skips What.ByteOrderMark 0 (begin doc)) _ h)
+  skipped-is zero x h = by (among-append x (gap What.ByteOrderMark 0 (begin doc)) _ h)
     where
-      by : In x (skips What.ByteOrderMark 0 (begin doc)) ⊎ In x (skips What.WhiteSpace (begin doc) (piece zero .from)) → So x
-      by (inl i) = let t = in-skips x What.ByteOrderMark 0 (begin doc) i in subst So (sym (t .0)) (mark-is (t .1))
-      by (inr i) = let t = in-skips x What.WhiteSpace (begin doc) (piece zero .from) i in subst So (sym (t .0)) (white-is zero (begin doc) refl (t .1))
+      by : AmongParts x (gap What.ByteOrderMark 0 (begin doc)) ⊎ AmongParts x (gap What.WhiteSpace (begin doc) (piece zero .from)) → AsNamed x
+      by (inl i) = let t = among-gap x What.ByteOrderMark 0 (begin doc) i in subst AsNamed (sym (t .0)) (bom-is (t .1))
+      by (inr i) = let t = among-gap x What.WhiteSpace (begin doc) (piece zero .from) i in subst AsNamed (sym (t .0)) (white-is zero (begin doc) refl (t .1))
   skipped-is (suc n) x h =
-      let t = in-skips x What.WhiteSpace (piece n .to) (piece (suc n) .from) h in subst So (sym (t .0)) (white-is (suc n) (piece n .to) (text-from n) (t .1))
+      let t = among-gap x What.WhiteSpace (piece n .to) (piece (suc n) .from) h in
+      subst AsNamed (sym (t .0)) (white-is (suc n) (piece n .to) (skip-from-the-piece's-end n) (t .1))
 
-  each-is : (n : ℕ) (x : Laid) → In x (parts n) → So x
-  unfolding run call fresh layout In
-  each-is zero x h = absurd h
-  each-is (suc n) x h = by (in-append x (parts n) _ h) (each-is n x)
+  as-named : (n : ℕ) (x : Laid) → AmongParts x (parts n) → AsNamed x
+  unfolding run call fresh layout AmongParts
+  as-named zero x h = absurd h
+  as-named (suc n) x h = by (among-append x (parts n) _ h) (as-named n x)
     where
-      now : In x (skippedBefore doc (pieces (after n .answers)) (piece n .from)) ⊎ ((x ≡ laid What.Piece (piece n)) ⊎ ⊥) → So x
+      now : AmongParts x (skippedBefore doc (pieces (after n .answers)) (piece n .from)) ⊎ ((x ≡ laid What.Piece (piece n)) ⊎ ⊥) → AsNamed x
       now (inl i) = skipped-is n x i
-      now (inr (inl e)) = subst So (sym e) tt
+      now (inr (inl e)) = subst AsNamed (sym e) tt
       now (inr (inr i)) = absurd i
 
-      by : In x (parts n) ⊎ In x (skippedBefore doc (pieces (after n .answers)) (piece n .from) ++ (laid What.Piece (piece n) ∷ [])) → (In x (parts n) → So x) → So x
+      by : AmongParts x (parts n) ⊎ AmongParts x (skippedBefore doc (pieces (after n .answers)) (piece n .from) ++ (laid What.Piece (piece n) ∷ []))
+          → (AmongParts x (parts n) → AsNamed x) → AsNamed x
       by (inl i) earlier = earlier i
-      by (inr i) earlier = now (in-append x (skippedBefore doc (pieces (after n .answers)) (piece n .from)) _ i)
+      by (inr i) earlier = now (among-append x (skippedBefore doc (pieces (after n .answers)) (piece n .from)) _ i)
+
+  position-within : (n : ℕ) → position n ≤ length doc
+  unfolding run call fresh
+  position-within zero = omega arith
+  position-within (suc n) = let t = turn doc stack c short n in omega (arith, t .left, t .within)
 
   -- THEOREM: no byte is set twice and none is dropped
   pub each-byte-is-set-once : (n : ℕ) → SetOnce doc c (pieces (after n .answers)) (position n)
   each-byte-is-set-once n =
       record {
+        within = position-within n;
         follow = reach n;
         once = λ place h. once-within place 0 (position n) (parts n) (reach n) (omega arith) h;
         ahead = λ place h. none-behind place 0 (position n) (parts n) (reach n) h;
         order = λ before between behind x y e. in-order (position n) before between behind x y (subst (λ (xs : List Laid). Chained 0 xs (position n)) e (reach n));
-        mark = λ s h. each-is n (laid What.ByteOrderMark s) h;
-        white = λ s h. each-is n (laid What.WhiteSpace s) h;
         each = pieces-laid doc (pieces (after n .answers));
+        white = λ s h. as-named n (laid What.WhiteSpace s) h;
+        byteOrderMark = λ s h. as-named n (laid What.ByteOrderMark s) h .1;
       }
+
+  -- THEOREM: where no white space is skipped every byte behind the byte order mark and before the position is in the piece of exactly one answer
+  pub each-byte-is-in-one-piece : c .«trim_text_start» ≡ false → (n place : ℕ) → begin doc ≤ place → place < position n
+      → count (hasByte place) (pieces (after n .answers)) ≡ 1
+  each-byte-is-in-one-piece off n place from to =
+      sym (count-reverse (hasByte place) (pieces (after n .answers)))
+      ∙ ap (count (hasByte place)) (sym (pieces-laid doc (pieces (after n .answers))))
+      ∙ sym (times-in-pieces place (parts n) (λ x i. other (x .what) (x .span) (as-named n x i)))
+      ∙ each-byte-is-set-once n .once place to
+    where
+      -- what is no piece does not have the byte
+      other : (what : What) (s : Span) → Meant what s → isPiece what ≡ false → hasByte place s ≡ false
+      other What.ByteOrderMark s m bare = not-behind place s (omega (arith, ap (λ (x : Span). x .to) (m .0)))
+      other What.WhiteSpace s m bare = clash _ (m .0) off
+      other What.Piece s m bare = clash true refl bare
 
   -- ---- the end
 
   -- a reader that is done has come to the end of the document, unless a refusal ended the run
   spent : (n : ℕ) → after n .reader .phase ≡ Phase.Done → oneIs isEnding (after n .answers) ≡ false → position n ≡ length doc
   unfolding run call fresh oneIs
-  spent zero d none = absurd (no-call-yet d)
+  spent zero d none = absurd (not-done Phase.Init (omega arith) d)
   spent (suc n) d none = by (turn doc stack c short n .finish .done d) (spent n)
     where
       by : (isEnding (said doc (after n)) ≡ true) ⊎ Spent doc (after n .reader) (position (suc n))
           → (after n .reader .phase ≡ Phase.Done → oneIs isEnding (after n .answers) ≡ false → position n ≡ length doc) → position (suc n) ≡ length doc
-      by (inl on) earlier = clash true refl (ap (λ (b : Bool). pick b true (oneIs isEnding (after n .answers))) (sym on) ∙ none)
+      by (inl on) earlier = clash _ on (pick-neither (isEnding (said doc (after n))) _ none .0)
       by (inr (inl e)) earlier = e
-      by (inr (inr e)) earlier = e .1 ∙ earlier (e .0) (nor-second (isEnding (said doc (after n))) _ none)
+      by (inr (inr e)) earlier = e .1 ∙ earlier (e .0) (pick-neither (isEnding (said doc (after n))) _ none .1)
 
   -- THEOREM: at Eof, unless a refusal ended the run, the position is the length
   pub at-eof-the-position-is-the-length : (n : ℕ) → oneIs isEof (after n .answers) ≡ true → oneIs isEnding (after n .answers) ≡ false → position n ≡ length doc
@@ -287,24 +345,46 @@ module _ (doc stack : List ℕ) (c : Config) (short : length doc ≤ longest) wh
   at-eof-every-byte-of-the-document-is-set n eof none =
       subst (SetOnce doc c (pieces (after n .answers))) (at-eof-the-position-is-the-length n eof none) (each-byte-is-set-once n)
 
-  -- THEOREM: after a refusal that ends the run every call answers Eof and changes nothing: the position stays where the refused piece ends, and what lies behind
-  -- it is left
+  -- after a refusal that ends the run the reader is done, with the mark on
   module _ (n : ℕ) (ending : isEnding (said doc (after n)) ≡ true) where
+    done-then : after (suc n) .reader .phase ≡ Phase.Done
+    unfolding run call
+    done-then = turn doc stack c short n .finish .stops ending
+
     marked-then : after (suc n) .reader .mark ≡ true
-    unfolding run call
-    marked-then =
-        the-mark-after-a-call doc (after n .stack) (after n .reader)
-        ∙ pick-cases (λ (b : Bool). pick b true (after n .reader .mark) ≡ true) (isEof (said doc (after n))) true _ (λ _. refl)
-        (λ _. pick-cases (λ (b : Bool). pick b true (after n .reader .mark) ≡ true) (isUnclosed (said doc (after n))) true _ (λ _. refl) (λ _. rw ending refl))
+    marked-then = marks-when-told doc stack c short n (pick-either (isEof (said doc (after n))) _ (pick-either (isUnclosed (said doc (after n))) _ ending))
 
+    -- THEOREM: so every call after it answers Eof, and changes nothing
     pub after-a-refusal-that-ends-the-run-all-stays : (k : ℕ) → AtRest doc (after (suc n)) (after (k + suc n))
-    unfolding run call
-    after-a-refusal-that-ends-the-run-all-stays k = stays doc stack c short (suc n) (turn doc stack c short n .finish .stops ending) marked-then k
+    after-a-refusal-that-ends-the-run-all-stays k = done-and-marked-stays doc stack c short (suc n) done-then marked-then k
 
-    pub the-position-stays-where-the-refused-piece-ends : (k : ℕ) → position (k + suc n) ≡ piece n .to
-    unfolding run call
-    the-position-stays-where-the-refused-piece-ends k =
-        ap (λ (r : Reader). r .position .0) (after-a-refusal-that-ends-the-run-all-stays k .reader) ∙ turn doc stack c short n .left
+  -- where the answers tell of a refusal that ended the run
+  record Ended (n : ℕ) (a : Answer) : Type 0 where
+    done : after n .reader .phase ≡ Phase.Done
+    marked : after n .reader .mark ≡ true
+    position : position n ≡ valuesOf a .piece .to
+
+  ended : (n : ℕ) (later before : List Answer) (a : Answer) → after n .answers ≡ later ++ (a ∷ before) → isEnding a ≡ true → Ended n a
+  unfolding run call
+  ended zero [] before a e ending = let z : _≡_ {A = ℕ} 0 1 = cc in absurd (omega arith)
+  ended zero (b ∷ later) before a e ending = let z : _≡_ {A = ℕ} 0 1 = cc in absurd (omega arith)
+  ended (suc n) [] before a e ending =
+      let same : said doc (after n) ≡ a = cc in
+      let on : isEnding (said doc (after n)) ≡ true = ap isEnding same ∙ ending in
+      record { done = done-then n on; marked = marked-then n on; position = turn doc stack c short n .left ∙ ap (λ (x : Answer). valuesOf x .piece .to) same }
+  ended (suc n) (b ∷ later) before a e ending =
+      let x = ended n later before a (cc) ending in
+      let stays = rest-reader doc stack c short n (x .done) (x .marked) in
+      record {
+        done = ap (λ (r : Reader). r .phase) stays ∙ x .done;
+        marked = ap (λ (r : Reader). r .mark) stays ∙ x .marked;
+        position = ap (λ (r : Reader). r .position .0) stays ∙ x .position;
+      }
+
+  -- THEOREM: where one of the answers is a refusal that ended the run, the position is the end of its piece, and what lies behind it is left
+  pub a-refusal-that-ended-the-run-leaves-what-is-behind-it : (n : ℕ) (later before : List Answer) (a : Answer)
+      → after n .answers ≡ later ++ (a ∷ before) → isEnding a ≡ true → position n ≡ valuesOf a .piece .to
+  a-refusal-that-ended-the-run-leaves-what-is-behind-it n later before a e ending = ended n later before a e ending .position
 
 -- ---- calls
 
@@ -315,10 +395,17 @@ module _ (Kept : Promise) (advances : Advances Kept) (doc stack : List ℕ) (c :
       what-holds-of-a-run-holds-of-calls Kept advances doc stack c (λ (v : World). SetOnce doc c (pieces (v .answers)) (v .reader .position .0)) calls
       (λ short. each-byte-is-set-once doc stack c short n)
 
-  -- THEOREM: and at Eof, unless a refusal ended the run, over the whole document
-  pub at-eof-every-byte-of-the-document-is-set-over-calls : oneIs isEof (w .answers) ≡ true → oneIs isEnding (w .answers) ≡ false
-      → (w .reader .position .0 ≡ length doc) × SetOnce doc c (pieces (w .answers)) (length doc)
-  at-eof-every-byte-of-the-document-is-set-over-calls =
+  -- THEOREM: and at Eof, unless a refusal ended the run, the position is the length
+  pub at-eof-the-position-is-the-length-over-calls : oneIs isEof (w .answers) ≡ true → oneIs isEnding (w .answers) ≡ false → w .reader .position .0 ≡ length doc
+  at-eof-the-position-is-the-length-over-calls =
       what-holds-of-a-run-holds-of-calls Kept advances doc stack c
-      (λ (v : World). oneIs isEof (v .answers) ≡ true → oneIs isEnding (v .answers) ≡ false → (v .reader .position .0 ≡ length doc) × SetOnce doc c (pieces (v .answers)) (length doc)) calls
-      (λ short eof none. (at-eof-the-position-is-the-length doc stack c short n eof none, at-eof-every-byte-of-the-document-is-set doc stack c short n eof none))
+      (λ (v : World). oneIs isEof (v .answers) ≡ true → oneIs isEnding (v .answers) ≡ false → v .reader .position .0 ≡ length doc) calls
+      (λ short. at-eof-the-position-is-the-length doc stack c short n)
+
+  -- THEOREM: where one did, it is the end of its piece
+  pub a-refusal-that-ended-the-run-leaves-what-is-behind-it-over-calls : (later before : List Answer) (a : Answer)
+      → w .answers ≡ later ++ (a ∷ before) → isEnding a ≡ true → w .reader .position .0 ≡ valuesOf a .piece .to
+  a-refusal-that-ended-the-run-leaves-what-is-behind-it-over-calls =
+      what-holds-of-a-run-holds-of-calls Kept advances doc stack c
+      (λ (v : World). (later before : List Answer) (a : Answer) → v .answers ≡ later ++ (a ∷ before) → isEnding a ≡ true → v .reader .position .0 ≡ valuesOf a .piece .to) calls
+      (λ short. a-refusal-that-ended-the-run-leaves-what-is-behind-it doc stack c short n)

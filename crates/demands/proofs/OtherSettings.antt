@@ -16,7 +16,7 @@ use Rattle.state.specs.declared.run.Step.{Step}
 use Rattle.state.specs.Limits.{longest}
 use Rattle.state.specs.Place.{span}
 use Rattle.state.specs.Values.{valuesOf}
-use Rattle.state.specs.Make.{told}
+use Rattle.state.specs.Make.{withDepth, told}
 use Rattle.emit.specs.End.{endEvent, closeExpandedEmpty}
 use Rattle.emit.specs.Start.{slashed}
 use Rattle.reader.specs.Names.{nameOf, bytes}
@@ -25,7 +25,7 @@ use Rattle.demands.specs.Run.{World, said, call, run}
 use Rattle.demands.specs.Answers.{isStart, isEnd, isMismatch, isUnmatched}
 use Rattle.demands.specs.Open.{opened, newest, rest}
 use Rattle.demands.proofs.Clauses.{Closing, Straying, setting, tag-at-start, at-end, at-mismatch, at-unmatched}
-use Rattle.demands.proofs.Demand1.{every-state-is-sound}
+use Rattle.demands.proofs.Demand1.{turn, every-state-is-sound}
 use Rattle.demands.proofs.Demand3.{start-adds-its-name}
 
 module _ (doc stack : List ℕ) (c : Config) (short : length doc ≤ longest) (n : ℕ) where
@@ -88,6 +88,10 @@ module _ (doc stack : List ℕ) (c : Config) (short : length doc ≤ longest) wh
     unfolding closeExpandedEmpty endEvent told
     inside-content = ap (λ (s : Step). valuesOf (s .answer) .content) inside-step
 
+    inside-piece : valuesOf (said doc (at n)) .piece ≡ span (at n .reader .position .0) (at n .reader .position .0)
+    unfolding closeExpandedEmpty endEvent told withDepth
+    inside-piece = ap (λ (s : Step). valuesOf (s .answer) .piece) inside-step
+
   -- the first of some names
   abbrev first : List Span → Span
   first ns = getD ns 0 (span 0 0)
@@ -116,3 +120,10 @@ module _ (doc stack : List ℕ) (c : Config) (short : length doc ≤ longest) wh
           let same = sym takes ∙ adds in
           (inside-ends (suc n) inside, inside-content (suc n) inside ∙ ap first same, ap rest same)
       by inside adds (inr none) = let z : _≡_ {A = ℕ} 0 (suc (length (opened (at n)))) = ap length (sym (none .0) ∙ adds) in absurd (omega arith)
+
+  -- THEOREM: "the End of an expanded empty has an empty piece", where its Start's piece ends
+  pub expanded-end-has-an-empty-piece : (n : ℕ) → isStart (said doc (at n)) ≡ true → slashed doc (valuesOf (said doc (at n)) .piece) ≡ true
+      → valuesOf (said doc (at (suc n))) .piece ≡ span (valuesOf (said doc (at n)) .piece .to) (valuesOf (said doc (at n)) .piece .to)
+  unfolding run call
+  expanded-end-has-an-empty-piece n start ends =
+      inside-piece (suc n) (inside-after n start ends) ∙ ap (λ (p : ℕ). span p p) (turn doc stack c short n .left)

@@ -8,7 +8,7 @@ use native.Mathlib.Omega.{arith}
 use lib.ListN.{length}
 use borrow.Author.Tests.{eqb-true, ne-eqb}
 use Rattle.ground.specs.Choose.{pick}
-use Rattle.ground.proofs.Choices.{pick-cases, pick-same, clash, must-fail}
+use Rattle.ground.proofs.Choices.{pick-cases, pick-either, pick-neither, pick-same, clash, must-fail}
 use Rattle.state.specs.declared.config.Config.{Config}
 use Rattle.state.specs.declared.answer.Kind.{Kind}
 use Rattle.state.specs.declared.answer.Answer.{Answer}
@@ -28,7 +28,7 @@ use Rattle.demands.specs.Answers.{isStart, isEnd, isEof, isMismatch, isU
 use Rattle.demands.specs.Open.{entries, opened, newest}
 use Rattle.demands.proofs.Held.{entries-length}
 use Rattle.demands.proofs.Clauses.{setting}
-use Rattle.demands.proofs.Demand1.{turn, done-says, rest-reader, eof-done}
+use Rattle.demands.proofs.Demand1.{turn, done-says, rest-reader, after-eof}
 use Rattle.demands.proofs.Demand3.{no-other-takes-a-name, only-a-start-writes, starts-are-ends-mismatches-and-open}
 
 -- ---- any state
@@ -46,11 +46,6 @@ no-call-turns-the-mark-off doc stack r on =
 
 -- ---- a run
 
--- where neither of two is so the second is not
-pub nor-second : (t u : Bool) → pick t true u ≡ false → u ≡ false
-nor-second true u e = clash true refl e
-nor-second false u e = e
-
 -- where no answer turned the mark on none was Eof
 none-was-eof : (before : List Answer) → oneIs turnsOn before ≡ false → oneIs isEof before ≡ false
 unfolding oneIs
@@ -60,7 +55,7 @@ none-was-eof (a ∷ before) e = by (isEof a) _ (none-was-eof before) e
     by : (eof other : Bool) → (oneIs turnsOn before ≡ false → oneIs isEof before ≡ false) → pick (pick eof true other) true (oneIs turnsOn before) ≡ false
         → pick eof true (oneIs isEof before) ≡ false
     by true other further e = e
-    by false other further e = further (nor-second other _ e)
+    by false other further e = further (pick-neither other _ e .1)
 
 module _ (doc stack : List ℕ) (c : Config) (short : length doc ≤ longest) where
   abbrev after : ℕ → World
@@ -79,6 +74,10 @@ module _ (doc stack : List ℕ) (c : Config) (short : length doc ≤ longest) wh
   the-mark-is-what-the-answers-say zero = refl
   the-mark-is-what-the-answers-say (suc n) =
       the-mark-after-a-call doc (after n .stack) (after n .reader) ∙ ap (pick (turnsOn (answer n)) true) (the-mark-is-what-the-answers-say n)
+
+  pub marks-when-told : (n : ℕ) → turnsOn (answer n) ≡ true → after (suc n) .reader .mark ≡ true
+  unfolding run call
+  marks-when-told n e = the-mark-after-a-call doc (after n .stack) (after n .reader) ∙ rw e refl
 
   module _ (n : ℕ) (eighteen : isUnclosed (answer n) ≡ true) where
     number : valuesOf (answer n) .number ≡ 18
@@ -117,10 +116,7 @@ module _ (doc stack : List ℕ) (c : Config) (short : length doc ≤ longest) wh
         let o = no-other in (no-other-takes-a-name doc stack c short n (o .0) (o .1) (o .2), only-a-start-writes doc stack c short n (o .0))
 
     marks-then : after (suc n) .reader .mark ≡ true
-    unfolding run call
-    marks-then =
-        the-mark-after-a-call doc (after n .stack) (after n .reader)
-        ∙ pick-cases (λ (b : Bool). pick b true (after n .reader .mark) ≡ true) (isEof (answer n)) _ _ (λ _. refl) (λ _. rw eighteen refl)
+    marks-then = marks-when-told n (pick-either (isEof (answer n)) _ (rw eighteen refl))
 
     done-then : after (suc n) .reader .phase ≡ Phase.Done
     unfolding run call
@@ -184,17 +180,6 @@ module _ (doc stack : List ℕ) (c : Config) (short : length doc ≤ longest) wh
       by false false true further e u s = clash true refl s
       by false false false further e u s = further e u s
 
-  -- after an Eof the reader is done, and its mark is on
-  pub after-eof : (n : ℕ) → oneIs isEof (answers n) ≡ true → (after n .reader .phase ≡ Phase.Done) × (after n .reader .mark ≡ true)
-  unfolding run call oneIs
-  after-eof zero e = clash false e refl
-  after-eof (suc n) e =
-      pick-cases (λ (b : Bool). b ≡ true → (after (suc n) .reader .phase ≡ Phase.Done) × (after (suc n) .reader .mark ≡ true)) (isEof (answer n)) true (oneIs isEof (answers n))
-      (λ e _. eof-done doc stack c short n e)
-      (λ _ e. let d = after-eof n e in let same = rest-reader doc stack c short n (d .0) (d .1) in
-      (ap (λ (r : Reader). r .phase) same ∙ d .0, ap (λ (r : Reader). r .mark) same ∙ d .1))
-      e
-
   module _ (asked : c .«check_open_names» ≡ true) where
     -- what Eof is answered with: nothing open, or the end was told before
     eof-with : (n : ℕ) → isEof (answer n) ≡ true → after n .reader .mark ≡ false → after n .reader .depth .0 ≡ 0
@@ -223,11 +208,11 @@ module _ (doc stack : List ℕ) (c : Config) (short : length doc ≤ longest) wh
     unfolding run call oneIs
     none-open zero e u s = clash false e refl
     none-open (suc n) e u s =
-        let v = nor-second (isUnclosed (answer n)) _ u in
-        let t = nor-second (isEnding (answer n)) _ s in
+        let v = pick-neither (isUnclosed (answer n)) _ u .1 in
+        let t = pick-neither (isEnding (answer n)) _ s .1 in
         pick-cases (λ (b : Bool). b ≡ true → after (suc n) .reader .depth .0 ≡ 0) (isEof (answer n)) true (oneIs isEof (answers n))
         (λ f _. eof-keeps n f (at-eof (after n .reader .mark) refl f (λ h. none-open n (eof-is-left (answers n) h v t) v t)))
-        (λ _ f. let d = after-eof n f in ap (λ (r : Reader). r .depth .0) (rest-reader doc stack c short n (d .0) (d .1)) ∙ none-open n f v t)
+        (λ _ f. let d = after-eof doc stack c short n f in ap (λ (r : Reader). r .depth .0) (rest-reader doc stack c short n (d .0) (d .1)) ∙ none-open n f v t)
         e
       where
         at-eof : (b : Bool) → after n .reader .mark ≡ b → isEof (answer n) ≡ true → (oneIs turnsOn (answers n) ≡ true → after n .reader .depth .0 ≡ 0)

@@ -22,7 +22,7 @@ use Rattle.demands.specs.Run.{call, run}
 use Rattle.demands.specs.Open.{entries}
 use Rattle.demands.specs.Openings.{turnsFrom, turnsOf, listed, openings}
 use Rattle.demands.specs.Laid.{layout}
-use Rattle.demands.specs.Sheets.{ran, setBy, setAs, sheets}
+use Rattle.demands.specs.Sheets.{ran, pageOf, pageListed, sheets}
 use Rattle.demands.specs.Table.{shown, given, wanted, table}
 
 -- THEOREM: what the definition gives for each row of the table is what the row has
@@ -36,6 +36,6 @@ unfolding turnsOf listed turnsFrom openings entries closeExpandedEmpty run call 
 openings-worked = refl
 
 -- THEOREM: the layout of each sheet is the one listed
-pub sheets-worked : map setBy sheets ≡ map setAs sheets
-unfolding setBy setAs ran sheets layout closeExpandedEmpty run call step stepPhase stepText begin skipped taken checked emitted sound inPlace latest pushed written cutNext cutMarkup cutQuestion cutBang cutMarked cutTag unclosedTag cutRef cutText phaseAt whole stop emitStart opening tag slashed emitEnd matched differs unmatched endEvent closingName emitQuestionMark questionEvent isDecl emitCData emitComment checkedComment bangEvent emitDangling emitRef emitLastText emitText textContent stopped refused ending refusesEnd ended told marked withDepth moved fresh inner capacity feed checkFrom rowLen inRanges keptOf until begins same
+pub sheets-worked : map pageOf sheets ≡ map pageListed sheets
+unfolding pageOf pageListed ran sheets layout closeExpandedEmpty run call step stepPhase stepText begin skipped taken checked emitted sound inPlace latest pushed written cutNext cutMarkup cutQuestion cutBang cutMarked cutTag unclosedTag cutRef cutText phaseAt whole stop emitStart opening tag slashed emitEnd matched differs unmatched endEvent closingName emitQuestionMark questionEvent isDecl emitCData emitComment checkedComment bangEvent emitDangling emitRef emitLastText emitText textContent stopped refused ending refusesEnd ended told marked withDepth moved fresh inner capacity feed checkFrom rowLen inRanges keptOf until begins same
 sheets-worked = refl

@@ -4,10 +4,10 @@ use mathlib.Core.Path.{_≡_}
 use mathlib.Core.Logic.{_⊎_}
 use mathlib.Core.Bool.{Bool, true, false}
 use mathlib.Core.List.{List, [], _∷_, _++_, map, reverse}
-use lib.ListN.{getD}
+use lib.ListN.{length}
 use lib.Dec.{leb, ltb}
 use Rattle.ground.specs.Choose.{pick, allOf}
-use Rattle.white.specs.White.{isWhite}
+use Rattle.white.specs.White.{WhiteWithin}
 use Rattle.state.specs.declared.place.Span.{Span}
 use Rattle.state.specs.declared.config.Config.{Config}
 use Rattle.state.specs.declared.answer.Answer.{Answer}
@@ -31,17 +31,18 @@ pub record Laid : Type 0 where
 abbrev pub laid : What → Span → Laid
 laid what s = record { what = what; span = s }
 
--- what was skipped from `from` to `to`, if there is a byte between
-abbrev pub skips : What → ℕ → ℕ → List Laid
-skips what from to = pick (ltb from to) (laid what (span from to) ∷ []) []
+-- the bytes between two places, if there are any
+abbrev pub gap : What → ℕ → ℕ → List Laid
+gap what from to = pick (ltb from to) (laid what (span from to) ∷ []) []
 
--- what was skipped before the piece that starts at `to`, where the pieces before it are these, the latest first: white space from the latest one's end on. Before
--- the first piece a byte order mark stands, if any, and then white space
+-- what was skipped before a piece that starts at `to`, where the pieces before it are these, the latest first: white space from the latest one's end on. Before the
+-- first piece it is the byte order mark, if the document begins with it, and then white space
 abbrev pub skippedBefore : List ℕ → List Span → ℕ → List Laid
-skippedBefore doc [] to = skips What.ByteOrderMark 0 (begin doc) ++ skips What.WhiteSpace (begin doc) to
-skippedBefore doc (piece ∷ before) to = skips What.WhiteSpace (piece .to) to
+skippedBefore doc [] to = gap What.ByteOrderMark 0 (begin doc) ++ gap What.WhiteSpace (begin doc) to
+skippedBefore doc (piece ∷ before) to = gap What.WhiteSpace (piece .to) to
 
--- THE LAYOUT of a document by pieces, the latest first: each behind what was skipped before it
+-- THE LAYOUT of a document by pieces, which are given the latest first; its parts stand in the order of the calls. Each piece stands behind what was skipped
+-- before it
 unfoldable pub layout : List ℕ → List Span → List Laid
 layout doc [] = []
 layout doc (piece ∷ before) = layout doc before ++ (skippedBefore doc before (piece .from) ++ (laid What.Piece piece ∷ []))
@@ -58,13 +59,9 @@ Chained from [] to = from ≡ to
 Chained from (x ∷ rest) to = (x .span .from ≡ from) × (x .span .from ≤ x .span .to) × Chained (x .span .to) rest to
 
 -- a part is one of these
-unfoldable pub In : Laid → List Laid → Type 0
-In x [] = ⊥
-In x (y ∷ rest) = (x ≡ y) ⊎ In x rest
-
--- every byte of a part is white space
-abbrev pub OnlyWhite : List ℕ → Span → Type 0
-OnlyWhite doc s = (k : ℕ) → s .from ≤ k → k < s .to → isWhite (getD doc k 0) ≡ true
+unfoldable pub AmongParts : Laid → List Laid → Type 0
+AmongParts x [] = ⊥
+AmongParts x (y ∷ rest) = (x ≡ y) ⊎ AmongParts x rest
 
 abbrev pub isPiece : What → Bool
 isPiece What.ByteOrderMark = false
@@ -76,22 +73,29 @@ unfoldable pub piecesIn : List Laid → List Span
 piecesIn [] = []
 piecesIn (x ∷ rest) = pick (isPiece (x .what)) (x .span ∷ piecesIn rest) (piecesIn rest)
 
--- the byte at a place is one of a part's
-abbrev pub holds : ℕ → Laid → Bool
-holds place x = allOf (leb (x .span .from) place ∷ ltb place (x .span .to) ∷ [])
+-- the byte at a place is one of a span's
+abbrev pub hasByte : ℕ → Span → Bool
+hasByte place s = allOf (leb (s .from) place ∷ ltb place (s .to) ∷ [])
 
--- THE STATEMENT of a document that was read with these settings, by answers with these pieces, the latest first, up to this position
+-- how many parts it is in
+abbrev pub timesSet : ℕ → List Laid → ℕ
+timesSet place parts = count (λ (x : Laid). hasByte place (x .span)) parts
+
+-- THE STATEMENT of a document that was read with these settings, by answers with these pieces, the latest first, up to this position. What it says of the reader
+-- are `within`, `follow` and `white`: `once`, `ahead` and `order` come of `follow`, and the rest holds of any pieces, by the definition of the layout
 pub record SetOnce (doc : List ℕ) (c : Config) (answered : List Span) (position : ℕ) : Type 0 where
+  -- the position lies in the document
+  pub within : position ≤ length doc
   -- the parts follow each other from 0 to the position, without gap or overlap
   pub follow : Chained 0 (layout doc answered) position
   -- "each byte before the position is in exactly one" of them, and no other byte is in any
-  pub once : (place : ℕ) → place < position → count (holds place) (layout doc answered) ≡ 1
-  pub ahead : (place : ℕ) → position ≤ place → count (holds place) (layout doc answered) ≡ 0
+  pub once : (place : ℕ) → place < position → timesSet place (layout doc answered) ≡ 1
+  pub ahead : (place : ℕ) → position ≤ place → timesSet place (layout doc answered) ≡ 0
   -- "no piece starts before an earlier one ends", nor does any part
   pub order : (before between behind : List Laid) (x y : Laid) → layout doc answered ≡ before ++ (x ∷ (between ++ (y ∷ behind))) → x .span .to ≤ y .span .from
-  -- the byte order mark stands at 0 if at all, and is EF BB BF
-  pub mark : (s : Span) → In (laid What.ByteOrderMark s) (layout doc answered) → (s ≡ span 0 3) × (bytes doc s ≡ bom)
-  -- what was skipped as white space is nothing else, and nothing is skipped unless `trim_text_start` is on
-  pub white : (s : Span) → In (laid What.WhiteSpace s) (layout doc answered) → (c .«trim_text_start» ≡ true) × OnlyWhite doc s
   -- the parts that are pieces are those of the answers, one for each, in the order of the calls
   pub each : piecesIn (layout doc answered) ≡ reverse answered
+  -- what was skipped as white space is nothing else, and none is skipped unless `trim_text_start` is on
+  pub white : (s : Span) → AmongParts (laid What.WhiteSpace s) (layout doc answered) → (c .«trim_text_start» ≡ true) × WhiteWithin doc (s .from) (s .to)
+  -- the byte order mark is EF BB BF and stands at 0, if at all
+  pub byteOrderMark : (s : Span) → AmongParts (laid What.ByteOrderMark s) (layout doc answered) → (s ≡ span 0 3) × (bytes doc s ≡ bom)

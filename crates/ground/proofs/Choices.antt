@@ -72,6 +72,15 @@ pub both : (t u : Bool) → pick t u false ≡ true → (t ≡ true) × (u ≡ t
 both true u e = (refl, e)
 both false u e = clash false e refl
 
+-- of two tests one would do: the second passes, or neither does
+pub pick-either : (t u : Bool) → u ≡ true → pick t true u ≡ true
+pick-either true u e = refl
+pick-either false u e = e
+
+pub pick-neither : (t u : Bool) → pick t true u ≡ false → (t ≡ false) × (u ≡ false)
+pick-neither true u e = clash true refl e
+pick-neither false u e = (refl, e)
+
 -- a choice between two equal things
 pub pick-same : {A : Type 0} (t : Bool) (x : A) → pick t x x ≡ x
 pick-same true x = refl

@@ -8,7 +8,7 @@ use mathlib.Core.Logic.{inl, inr}
 use native.Mathlib.Omega.{arith}
 use lib.ListN.{length, drop, getD}
 use lib.Dec.{eqb, leb}
-use borrow.Author.Tests.{eqb-true, eqb-false}
+use borrow.Author.Tests.{eqb-true, eqb-false, leb-true}
 use Rattle.ground.specs.Bytes.{amp, bang, gt, hyphen, lowerD, lt, openBracket, question, semicolon, slash, upperD}
 use Rattle.ground.specs.Equal.{begins}
 use Rattle.ground.proofs.Choices.{pick-cases}
@@ -29,12 +29,13 @@ use Rattle.state.specs.declared.place.Span.{Span}
 use Rattle.state.specs.declared.answer.Error.{Error}
 use Rattle.state.specs.declared.answer.Refusal.{Refusal}
 use Rattle.state.specs.declared.run.Phase.{Phase}
-use Rattle.state.specs.Place.{at}
+use Rattle.state.specs.Place.{at, span}
 use Rattle.state.specs.Values.{numberedOf, endsRun}
 use Rattle.emit.specs.Question.{xml, unclosedQuestion}
 use Rattle.reader.specs.declared.piece.Shape.{Shape}
 use Rattle.reader.specs.declared.piece.Piece.{Piece}
 use Rattle.reader.specs.declared.piece.Cut.{Cut}
+use Rattle.reader.specs.Left.{Left, at-length, lone, kept}
 use Rattle.reader.specs.Cut.{whole, stop, phaseAt, cutText, cutRef, unclosedTag, cutTag, cutMarked, cutBang, cutQuestion, cutMarkup, cutNext}
 
 -- how many bytes a piece has at least
@@ -82,6 +83,10 @@ PlainError e = Plain (numberedOf e .number) × (numberedOf e .number ≡ 9 → �
 abbrev pub StopError : Error → Type 0
 StopError e = PlainError e × (endsRun (numberedOf e .number) ≡ true)
 
+-- and is given where something is not closed
+abbrev OpenError : Error → Type 0
+OpenError e = StopError e × (numberedOf e .number ≤ 7)
+
 -- a span from `from` on, in the document
 pub record Lies (doc : List ℕ) (from : ℕ) (s : Span) : Type 0 where
   pub starts : s .from ≡ from
@@ -100,6 +105,7 @@ pub record CutOff (doc : List ℕ) (from : ℕ) (p : Piece) : Type 0 where
 pub record Halted (doc : List ℕ) (from : ℕ) (x : Refusal) : Type 0 where
   pub lies : Lies doc from (x .piece)
   pub plain : StopError (x .error)
+  pub left : Left doc (numberedOf (x .error) .number) (x .piece)
 
 abbrev pub CutAt : List ℕ → ℕ → Cut → Type 0
 CutAt doc from (Cut.Piece p) = CutOff doc from p
@@ -128,23 +134,23 @@ last-border doc = inl (omega (arith, byte-past doc (length doc) (omega arith)))
 closed-border : (doc : List ℕ) (p : ℕ) → getD doc p 0 ≤ 0x7F → Border doc (p + 1)
 closed-border doc p h = let back : p + 1 - 1 ≡ p = omega arith in inr (rw back h)
 
-unclosed-tag : (found : TagFound) → StopError (unclosedTag found)
+unclosed-tag : (found : TagFound) → OpenError (unclosedTag found)
 unfolding unclosedTag
-unclosed-tag (TagFound.At end) = (omega arith, refl)
-unclosed-tag (TagFound.Open ElementState.Outside) = (omega arith, refl)
-unclosed-tag (TagFound.Open ElementState.SingleQ) = (omega arith, refl)
-unclosed-tag (TagFound.Open ElementState.DoubleQ) = (omega arith, refl)
+unclosed-tag (TagFound.At end) = ((omega arith, refl), omega arith)
+unclosed-tag (TagFound.Open ElementState.Outside) = ((omega arith, refl), omega arith)
+unclosed-tag (TagFound.Open ElementState.SingleQ) = ((omega arith, refl), omega arith)
+unclosed-tag (TagFound.Open ElementState.DoubleQ) = ((omega arith, refl), omega arith)
 
-unclosed-question : (doc : List ℕ) (from : ℕ) → StopError (unclosedQuestion doc (at from))
+unclosed-question : (doc : List ℕ) (from : ℕ) → OpenError (unclosedQuestion doc (at from))
 unfolding unclosedQuestion
 unclosed-question doc from =
-    pick-cases StopError (begins (drop from doc) (lt ∷ question ∷ xml)) _ _
-    (λ _. pick-cases StopError (leb (length doc) (from + 5)) _ _
-    (λ _. (omega arith, refl))
-    (λ _. pick-cases StopError (eqb (getD doc (from + 5) 0) question) _ _
-    (λ _. (omega arith, refl))
-    (λ _. pick-cases StopError (isWhite (getD doc (from + 5) 0)) _ _ (λ _. (omega arith, refl)) (λ _. (omega arith, refl)))))
-    (λ _. (omega arith, refl))
+    pick-cases OpenError (begins (drop from doc) (lt ∷ question ∷ xml)) _ _
+    (λ _. pick-cases OpenError (leb (length doc) (from + 5)) _ _
+    (λ _. ((omega arith, refl), omega arith))
+    (λ _. pick-cases OpenError (eqb (getD doc (from + 5) 0) question) _ _
+    (λ _. ((omega arith, refl), omega arith))
+    (λ _. pick-cases OpenError (isWhite (getD doc (from + 5) 0)) _ _ (λ _. ((omega arith, refl), omega arith)) (λ _. ((omega arith, refl), omega arith)))))
+    (λ _. ((omega arith, refl), omega arith))
 
 module _ (doc : List ℕ) (from : ℕ) where
   abbrev Here : Cut → Type 0
@@ -154,9 +160,10 @@ module _ (doc : List ℕ) (from : ℕ) where
   unfolding whole
   whole-cut shape to next h k m o l b = record { lies = record { starts = refl; ends = h; within = k }; moves = m; edges = o; lands = l; border = b }
 
-  stop-cut : (error : Error) (left : ℕ) → from ≤ left → left ≤ length doc → StopError error → Here (stop error from left)
+  stop-cut : (error : Error) (left : ℕ) → from ≤ left → left ≤ length doc → StopError error → Left doc (numberedOf error .number) (span from left)
+      → Here (stop error from left)
   unfolding stop
-  stop-cut error left h k p = record { lies = record { starts = refl; ends = h; within = k }; plain = p }
+  stop-cut error left h k p l = record { lies = record { starts = refl; ends = h; within = k }; plain = p; left = l }
 
   module _ (h : from ≤ length doc) where
     text-cut : (getD doc from 0 ≡ lt → ⊥) → (getD doc from 0 ≡ amp → ⊥) → Here (cutText doc from)
@@ -194,11 +201,11 @@ module _ (doc : List ℕ) (from : ℕ) where
         → Here (whole shape from (p + 1) Phase.InsideText)
     closed shape p m t g o = whole-cut shape (p + 1) Phase.InsideText (omega arith) (omega arith) m o tt (closed-border doc p (omega arith))
 
-    unclosed : (error : Error) → StopError error → Here (stop error from (length doc))
-    unclosed error p = stop-cut error (length doc) h (omega arith) p
+    unclosed : (error : Error) → OpenError error → Here (stop error from (length doc))
+    unclosed error p = stop-cut error (length doc) h (omega arith) (p .0) (at-length (p .1) refl)
 
-    kept : (error : Error) → StopError error → Here (stop error from from)
-    kept error p = stop-cut error from (omega arith) h p
+    stays : (error : Error) → StopError error → Left doc (numberedOf error .number) (span from from) → Here (stop error from from)
+    stays error p l = stop-cut error from (omega arith) h p l
 
     -- markup, at a `<`
     module _ (l : getD doc from 0 ≡ lt) where
@@ -212,7 +219,7 @@ module _ (doc : List ℕ) (from : ℕ) where
           closed shape p (omega (arith, t .after)) (t .within) (t .closes) (o (p + 1)))
           (unclosed _ (unclosed-tag (elementFound doc from)))
 
-      marked-cut : (found : MarksFound) (shape : Shape) (error : Error) → fewest shape ≤ 1 → ((to : ℕ) → Edges doc from to shape) → StopError error
+      marked-cut : (found : MarksFound) (shape : Shape) (error : Error) → fewest shape ≤ 1 → ((to : ℕ) → Edges doc from to shape) → OpenError error
           → ((p : ℕ) → found ≡ MarksFound.At p → (from ≤ p) × (p < length doc) × (getD doc p 0 ≡ gt)) → Here (cutMarked doc from found shape error)
       unfolding cutMarked
       marked-cut found shape error f o q w = marks-cases Here found _ _ (λ p e. closed shape p (omega (arith, w p e .0)) (w p e .1) (w p e .2) (o (p + 1))) (unclosed error q)
@@ -221,16 +228,16 @@ module _ (doc : List ℕ) (from : ℕ) where
       unfolding cutBang
       bang-cut third =
           pick-cases Here (eqb third openBracket) _ _
-          (λ _. marked-cut (cdataFound doc from) Shape.CData Error.UnclosedCData (omega arith) (λ _. l) (omega arith, refl)
+          (λ _. marked-cut (cdataFound doc from) Shape.CData Error.UnclosedCData (omega arith) (λ _. l) ((omega arith, refl), omega arith)
           (λ p e. let t = found-has MarksFound.At _ _ (cdata-gives doc from) (cdataFound doc from) p refl e in omega (arith, t)))
           (λ _. pick-cases Here (eqb third hyphen) _ _
-          (λ _. marked-cut (commentFound doc from) Shape.Comment Error.UnclosedComment (omega arith) (λ _. l) (omega arith, refl)
+          (λ _. marked-cut (commentFound doc from) Shape.Comment Error.UnclosedComment (omega arith) (λ _. l) ((omega arith, refl), omega arith)
           (λ p e. let t = found-has MarksFound.At _ _ (comment-gives doc from) (commentFound doc from) p refl e in omega (arith, t)))
           (λ _. pick-cases Here (eqb third upperD) _ _
-          (λ _. kept Error.DocType (omega arith, refl))
+          (λ _. stays Error.DocType (omega arith, refl) (kept (inr (inl refl)) refl))
           (λ _. pick-cases Here (eqb third lowerD) _ _
-          (λ _. kept Error.DocType (omega arith, refl))
-          (λ _. kept Error.InvalidBangMarkup (omega arith, refl)))))
+          (λ _. stays Error.DocType (omega arith, refl) (kept (inr (inl refl)) refl))
+          (λ _. stays Error.InvalidBangMarkup (omega arith, refl) (kept (inl refl) refl)))))
 
       question-cut : Here (cutQuestion doc from)
       unfolding cutQuestion
@@ -243,7 +250,7 @@ module _ (doc : List ℕ) (from : ℕ) where
       unfolding cutMarkup
       markup-cut =
           pick-cases Here (leb (length doc) (from + 1)) _ _
-          (λ _. kept Error.UnclosedTag (omega arith, refl))
+          (λ e. stays Error.UnclosedTag (omega arith, refl) (lone refl refl (omega (arith, leb-true (length doc) (from + 1) e, stands-in doc from lt l (omega arith)))))
           (λ _. pick-cases Here (eqb (getD doc (from + 1) 0) bang) _ _
           (λ _. bang-cut (getD doc (from + 2) 0))
           (λ _. pick-cases Here (eqb (getD doc (from + 1) 0) question) _ _

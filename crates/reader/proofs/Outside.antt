@@ -51,11 +51,12 @@ use Rattle.emit.specs.Start.{slashed, tag, opening, emitStart}
 use Rattle.reader.specs.declared.piece.Shape.{Shape}
 use Rattle.reader.specs.declared.piece.Piece.{Piece}
 use Rattle.reader.specs.declared.piece.Cut.{Cut}
+use Rattle.reader.specs.Left.{Left, kept, after-piece}
 use Rattle.reader.specs.Names.{latest, nameOf, bytes}
 use Rattle.reader.specs.Sound.{inPlaceIn, inPlace, sound}
 use Rattle.reader.specs.Step.{emittedAs, emitted, checked, taken, skipped, stepText, bom, begin, stepIn, stepPhase, step, FirstIll}
 use Rattle.reader.proofs.Cuts.{fewest, Edges, Lands, Plain, PlainError, StopError, Lies, CutOff, CutAt, next-cut, markup-cut, ref-cut}
-use Rattle.reader.proofs.Passed.{textFrom, Passes, begin-within, passes-nothing, passes-white}
+use Rattle.reader.proofs.Passed.{skipFrom, PassesOver, begin-within, passes-nothing, passes-white, skipped-within}
 use Rattle.reader.proofs.States.{sound-true, markup-at, ref-at}
 
 -- ---- what there is to see
@@ -106,7 +107,7 @@ pub record Commented (doc : List ℕ) (r : Reader) (a : Answer) : Type 0 where
   pub passed : valuesOf a .kind ≡ kindNumber Kind.Comment → r .settings .«check_comments» ≡ true → TwoHyphens doc (inner (valuesOf a .piece) 4 3) → ⊥
 
 -- what a call says of UTF-8: the piece of an event is well formed, and any after which reading goes on; 13 is told at the first ill-formed byte of its piece
-pub record Encoded (doc : List ℕ) (r : Reader) (s : Step) : Type 0 where
+pub record Encoded (doc : List ℕ) (s : Step) : Type 0 where
   pub event : 0 < valuesOf (s .answer) .kind → Octets (bytes doc (valuesOf (s .answer) .piece))
   pub going : (s .reader .phase ≡ Phase.Done → ⊥) → Octets (bytes doc (valuesOf (s .answer) .piece))
   pub ill : valuesOf (s .answer) .number ≡ 13 → FirstIll doc (valuesOf (s .answer) .piece) (valuesOf (s .answer) .place)
@@ -132,13 +133,15 @@ pub record Turned (doc : List ℕ) (cap : ℕ) (last : Span) (r : Reader) (s : S
   pub ordered : valuesOf (s .answer) .piece .from ≤ valuesOf (s .answer) .piece .to
   pub left : s .reader .position .0 ≡ valuesOf (s .answer) .piece .to
   pub within : valuesOf (s .answer) .piece .to ≤ length doc
-  pub passed : Passes doc r (valuesOf (s .answer) .piece .from)
+  pub passed : PassesOver doc r (valuesOf (s .answer) .piece .from)
   pub in-place : inPlace doc (s .reader) ≡ true
   pub falls : due doc (s .reader) ≤ due doc r - 1
   pub finish : Finished doc last r s
+  -- where a refusal leaves the reader; 16 and 17 are no answers on a sound state, and 18 has the piece of an Eof
+  pub refusal : 0 < valuesOf (s .answer) .number → valuesOf (s .answer) .number ≤ 15 → Left doc (valuesOf (s .answer) .number) (valuesOf (s .answer) .piece)
   pub names : Named doc cap last r s
   pub comment : Commented doc r (s .answer)
-  pub encoding : Encoded doc r s
+  pub encoding : Encoded doc s
 
 -- ---- the two ways to answer
 
@@ -147,7 +150,7 @@ record Fits (doc : List ℕ) (r : Reader) (piece : Span) : Type 0 where
   pub after : r .position .0 ≤ piece .from
   pub ordered : piece .from ≤ piece .to
   pub within : piece .to ≤ length doc
-  pub passed : Passes doc r (piece .from)
+  pub passed : PassesOver doc r (piece .from)
 
 -- a well-formed one with bytes, where the reader is not done
 record Some (doc : List ℕ) (r : Reader) (piece : Span) : Type 0 where
@@ -200,7 +203,7 @@ twin-owed : (r b : Reader) → Twin r b → b .depth .0 ≤ r .depth .0 → owed
 twin-owed r b t d = owed-less r b (t .like .settings) (t .mark) d
 
 -- a phase in which there is a call to come
-not-done : (p : Phase) → 1 ≤ rankAt [] 0 p → p ≡ Phase.Done → ⊥
+pub not-done : (p : Phase) → 1 ≤ rankAt [] 0 p → p ≡ Phase.Done → ⊥
 not-done p h e = let z : rankAt [] 0 p ≡ 0 = ap (rankAt [] 0) e in omega arith
 
 -- ---- names
@@ -235,6 +238,9 @@ module _ (doc : List ℕ) (cap : ℕ) (last : Span) (r : Reader) (piece : Span) 
   abbrev Names : Step → Type 0
   Names = Named doc cap last r
 
+  abbrev Leaves : Error → Type 0
+  Leaves error = Left doc (numberedOf error .number) piece
+
   told-turn : (b : Reader) (kind : Kind) (content : Span) (name : ℕ) (next : Phase) → Like r b → Next doc r b (piece .to) next
       → Octets (bytes doc piece) → Finished doc last r (told b (event kind piece content name) next) → Unpaired doc r piece kind
       → Names (told b (event kind piece content name) next) → Turn (told b (event kind piece content name) next)
@@ -251,6 +257,7 @@ module _ (doc : List ℕ) (cap : ℕ) (last : Span) (r : Reader) (piece : Span) 
         in-place = n .in-place;
         falls = n .falls;
         finish = o;
+        refusal = λ some few. absurd (omega arith);
         names = k;
         comment = record { refused = λ e. absurd (omega arith); passed = u };
         encoding = record { event = λ _. w; going = λ _. w; ill = λ e. absurd (omega arith) };
@@ -258,9 +265,9 @@ module _ (doc : List ℕ) (cap : ℕ) (last : Span) (r : Reader) (piece : Span) 
 
   refused-turn : (b : Reader) (error : Error) (place : Position) (next : Phase) → Like r b → Next doc r b (piece .to) next
       → ((next ≡ Phase.Done → ⊥) → Octets (bytes doc piece)) → Finished doc last r (refused b error place piece next) → Placed doc r piece error place
-      → Names (refused b error place piece next) → Turn (refused b error place piece next)
+      → (numberedOf error .number ≤ 15 → Leaves error) → Names (refused b error place piece next) → Turn (refused b error place piece next)
   unfolding refused moved inPlace refusesEnd
-  refused-turn b error place next l n w o p k =
+  refused-turn b error place next l n w o p q k =
       record {
         size = l .size;
         settings = l .settings;
@@ -272,6 +279,7 @@ module _ (doc : List ℕ) (cap : ℕ) (last : Span) (r : Reader) (piece : Span) 
         in-place = n .in-place;
         falls = n .falls;
         finish = o;
+        refusal = λ some few. q few;
         names = k;
         comment = record { refused = p .0; passed = λ e. absurd (omega arith) };
         encoding = record { event = λ e. absurd (omega arith); going = w; ill = p .1 };
@@ -343,17 +351,17 @@ module _ (doc : List ℕ) (cap : ℕ) (last : Span) (r : Reader) (piece : Span) 
       told-turn r kind content name next (twin-itself r .like) n w (told-on r kind content name next (twin-itself r) (q .2) d) (λ e. absurd (q .3 e)) (keeps (q .0, q .1, omega arith) refl)
 
   refused-quiet : (error : Error) (place : Position) (next : Phase) → Next doc r r (piece .to) next → Ends next → ((next ≡ Phase.Done → ⊥) → Octets (bytes doc piece))
-      → PlainError error → endsRun (numberedOf error .number) ≡ false → Turn (refused r error place piece next)
+      → PlainError error → endsRun (numberedOf error .number) ≡ false → Leaves error → Turn (refused r error place piece next)
   unfolding refused moved
-  refused-quiet error place next n d w p off =
-      refused-turn r error place next (twin-itself r .like) n w (refused-on r error place next (twin-itself r) (p .3) off d) (λ e. absurd (p .1 e), λ e. absurd (p .2 e))
+  refused-quiet error place next n d w p off q =
+      refused-turn r error place next (twin-itself r .like) n w (refused-on r error place next (twin-itself r) (p .3) off d) (λ e. absurd (p .1 e), λ e. absurd (p .2 e)) (λ _. q)
       (keeps (λ e. omega arith, λ e. omega arith, p .0) refl)
 
-  stopped-quiet : (error : Error) (place : Position) → StopError error → Turn (stopped r error place piece)
+  stopped-quiet : (error : Error) (place : Position) → StopError error → Leaves error → Turn (stopped r error place piece)
   unfolding stopped refused moved marked
-  stopped-quiet error place p =
+  stopped-quiet error place p q =
       refused-turn (marked r) error place Phase.Done (like-marked r) to-end (λ n. absurd (n refl)) (stopped-off error place (p .0 .3) (p .1))
-      (λ e. absurd (p .0 .1 e), λ e. absurd (p .0 .2 e)) (keeps (λ e. omega arith, λ e. omega arith, p .0 .0) refl)
+      (λ e. absurd (p .0 .1 e), λ e. absurd (p .0 .2 e)) (λ _. q) (keeps (λ e. omega arith, λ e. omega arith, p .0 .0) refl)
 
   -- ---- the end
 
@@ -368,7 +376,7 @@ module _ (doc : List ℕ) (cap : ℕ) (last : Span) (r : Reader) (piece : Span) 
   unfolding stopped refused moved marked
   unclosed-turn d e =
       refused-turn (marked r) Error.UnclosedElements _ Phase.Done (like-marked r) to-end (λ n. absurd (n refl))
-      (record { over = λ e. absurd (omega arith); unclosed = λ _. (refl, e, refl); stops = λ e. clash false e refl; done = λ _. inr d; mark = refl }) (λ e. absurd (omega arith), λ e. absurd (omega arith)) (keeps (omega arith) refl)
+      (record { over = λ e. absurd (omega arith); unclosed = λ _. (refl, e, refl); stops = λ e. clash false e refl; done = λ _. inr d; mark = refl }) (λ e. absurd (omega arith), λ e. absurd (omega arith)) (λ few. absurd (omega arith)) (keeps (omega arith) refl)
 
   end-turn : Octets (bytes doc piece) → Spent doc r (piece .to) → Turn (ending r last piece)
   unfolding ending
@@ -393,7 +401,7 @@ module _ (doc : List ℕ) (cap : ℕ) (last : Span) (r : Reader) (piece : Span) 
     dangling-turn next l =
         pick-cases Turn (r .settings .«allow_dangling_amp») _ _
         (λ _. told-quiet Kind.Text piece 0 next (to-next some next l) (lands-ends next l) (some .whole) (omega arith))
-        (λ _. refused-quiet Error.UnclosedReference _ next (to-next some next l) (lands-ends next l) (λ _. some .whole) (omega arith) refl)
+        (λ _. refused-quiet Error.UnclosedReference _ next (to-next some next l) (lands-ends next l) (λ _. some .whole) (omega arith) refl (after-piece (inr (omega arith)) (some .has)))
 
     -- an event after which text goes on
     plain-turn : (kind : Kind) (content : Span) (name : ℕ) → Silent kind → Turn (told r (event kind piece content name) Phase.InsideText)
@@ -425,7 +433,7 @@ module _ (doc : List ℕ) (cap : ℕ) (last : Span) (r : Reader) (piece : Span) 
         (λ t. remark-turn _ (λ _ h. pair-behind doc from to p e (ltb-true to p t) (h .0) (h .1)))
         (λ t. refused-turn r Error.DoubleHyphenInComment _ Phase.InsideText (twin-itself r .like) (to-text some r (omega arith)) (λ _. some .whole)
         (refused-on r Error.DoubleHyphenInComment _ Phase.InsideText (twin-itself r) (λ e. omega arith) refl text-ends)
-        (λ _. (on, pair-first doc from to p e (ltb-false to p t)), λ e. absurd (omega arith)) (keeps (omega arith) refl)))
+        (λ _. (on, pair-first doc from to p e (ltb-false to p t)), λ e. absurd (omega arith)) (λ _. after-piece (inr (omega arith)) (some .has)) (keeps (omega arith) refl)))
         (λ e. remark-turn _ (λ _ h. pair-nowhere doc from to e (h .0) (h .1)))
 
     comment-turn : Turn (emitComment doc r piece)
@@ -433,20 +441,20 @@ module _ (doc : List ℕ) (cap : ℕ) (last : Span) (r : Reader) (piece : Span) 
     comment-turn =
         pick-cases Turn (begins (drop (piece .from) doc) commentOpener) _ _
         (λ _. pick-cases Turn (r .settings .«check_comments») _ _ (λ on. checked-turn on) (λ off. remark-turn _ (λ on. clash _ on off)))
-        (λ _. stopped-quiet Error.UnclosedComment _ (omega arith, refl))
+        (λ _. stopped-quiet Error.UnclosedComment _ (omega arith, refl) (after-piece (inl (omega arith)) (some .has)))
 
     cdata-turn : Turn (emitCData doc r piece)
     unfolding emitCData
     cdata-turn =
         pick-cases Turn (begins (drop (piece .from) doc) cdataOpener) _ _
         (λ _. bang-turn Kind.CData _ (omega arith))
-        (λ _. stopped-quiet Error.UnclosedCData _ (omega arith, refl))
+        (λ _. stopped-quiet Error.UnclosedCData _ (omega arith, refl) (after-piece (inl (omega arith)) (some .has)))
 
     question-turn : Turn (emitQuestionMark doc r piece)
     unfolding emitQuestionMark questionEvent
     question-turn =
         pick-cases Turn (ltb (size piece) 4) _ _
-        (λ _. stopped-quiet Error.UnclosedPI _ (omega arith, refl))
+        (λ _. stopped-quiet Error.UnclosedPI _ (omega arith, refl) (after-piece (inl (omega arith)) (some .has)))
         (λ _. pick-cases (λ (e : Event). Turn (told r e Phase.InsideText)) (isDecl (bytes doc (inner piece 2 2))) _ _
         (λ _. plain-turn Kind.Decl _ 3 (omega arith))
         (λ _. plain-turn Kind.PI _ _ (omega arith)))
@@ -467,7 +475,7 @@ module _ (doc : List ℕ) (cap : ℕ) (last : Span) (r : Reader) (piece : Span) 
           (λ on. stray-turn z on)
           (λ off. refused-turn r (Error.UnmatchedEndTag name) _ Phase.InsideText (twin-itself r .like) (to-text some r (omega arith)) (λ _. some .whole)
           (refused-on r (Error.UnmatchedEndTag name) _ Phase.InsideText (twin-itself r) (λ e. omega arith) refl text-ends)
-          (λ e. absurd (omega arith), λ e. absurd (omega arith)) (unmatches refl z z off))
+          (λ e. absurd (omega arith), λ e. absurd (omega arith)) (λ _. after-piece (inr (omega arith)) (some .has)) (unmatches refl z z off))
 
       -- b has one name fewer
       module _ (z : 0 < r .depth .0) (b : Reader) (l : Twin r b) (d : b .depth .0 ≡ r .depth .0 - 1) where
@@ -488,7 +496,7 @@ module _ (doc : List ℕ) (cap : ℕ) (last : Span) (r : Reader) (piece : Span) 
             (λ e. let x = disagrees doc (b .settings) last name e in
             refused-turn b (Error.MismatchedEndTag last name) _ Phase.InsideText (l .like) onward (λ _. some .whole)
             (refused-on b (Error.MismatchedEndTag last name) _ Phase.InsideText l (λ e. omega arith) refl text-ends) (λ e. absurd (omega arith), λ e. absurd (omega arith))
-            (mismatches refl z d (sym on ∙ x .0) refl (x .1)))
+            (λ _. after-piece (inr (omega arith)) (some .has)) (mismatches refl z d (sym on ∙ x .0) refl (x .1)))
             (λ e. closed-turn (λ h. agrees doc (b .settings) last name e (on ∙ h)))
 
     close-turn : Turn (emitEnd doc r last piece)
@@ -552,7 +560,7 @@ record From (doc : List ℕ) (r : Reader) (from : ℕ) : Type 0 where
   pub after : r .position .0 ≤ from
   pub within : from ≤ length doc
   pub near : length doc - from + 1 ≤ rank doc r
-  pub passed : Passes doc r from
+  pub passed : PassesOver doc r from
 
 lies-fits : (doc : List ℕ) (r : Reader) (from : ℕ) (piece : Span) → From doc r from → Lies doc from piece → Fits doc r piece
 lies-fits doc r from piece f l =
@@ -566,14 +574,15 @@ module _ (doc : List ℕ) (cap : ℕ) (last : Span) (r : Reader) where
   full-turn piece f =
       stopped-quiet doc cap last r (span (piece .from) (piece .from))
       (record { after = f .after; ordered = omega arith; within = omega (arith, f); passed = f .passed })
-      Error.NameStackFull _ (omega arith, refl)
+      Error.NameStackFull _ (omega arith, refl) (kept (inr (inr refl)) refl)
 
   -- 13
   ill-turn : (piece : Span) → Fits doc r piece → (p : ℕ) → FirstIll doc piece p → Turns (stopped r Error.Encoding (at p) piece)
   unfolding stopped refused moved marked
   ill-turn piece f p x =
       refused-turn doc cap last r piece f (marked r) Error.Encoding (at p) Phase.Done (like-marked r) (to-end doc cap last r piece f) (λ n. absurd (n refl))
-      (stopped-off doc cap last r piece f Error.Encoding (at p) (λ e. omega arith) refl) (λ e. absurd (omega arith), λ _. x) (keeps (omega arith) refl)
+      (stopped-off doc cap last r piece f Error.Encoding (at p) (λ e. omega arith) refl) (λ e. absurd (omega arith), λ _. x)
+      (λ _. after-piece (inr (omega arith)) (omega (arith, x .has))) (keeps (omega arith) refl)
 
   module _ (piece : Span) (f : Fits doc r piece) (near : length doc - piece .from + 1 ≤ rank doc r) (whole : Octets (bytes doc piece)) where
     some : piece .from + 1 ≤ piece .to → Some doc r piece
@@ -604,23 +613,17 @@ module _ (doc : List ℕ) (cap : ℕ) (last : Span) (r : Reader) where
   taken-turn : (from : ℕ) (c : Cut) → From doc r from → CutAt doc from c → Turns (taken doc r last (depthOf cap) c)
   unfolding taken
   taken-turn from (Cut.Piece p) f c = piece-turn from p f c
-  taken-turn from (Cut.Stop x) f c = stopped-quiet doc cap last r (x .piece) (lies-fits doc r from _ f (c .lies)) (x .error) _ (c .plain)
+  taken-turn from (Cut.Stop x) f c = stopped-quiet doc cap last r (x .piece) (lies-fits doc r from _ f (c .lies)) (x .error) _ (c .plain) (c .left)
 
   -- ---- the phases
 
   -- "go on as text" from a place
-  skip-within : (from : ℕ) → from ≤ length doc → (from ≤ skipped doc (r .settings) from) × (skipped doc (r .settings) from ≤ length doc)
-  unfolding skipped
-  skip-within from h =
-      pick-cases (λ (to : ℕ). (from ≤ to) × (to ≤ length doc)) (r .settings .«trim_text_start») _ _
-      (λ _. (omega arith, omega (arith, until-within notWhite (part doc from (length doc)), part-end doc from (length doc))))
-      (λ _. (omega arith, h))
-
-  text-from : (from : ℕ) → From doc r from → textFrom doc (r .position .0) (r .phase) ≡ from → Turns (stepText doc r last (depthOf cap) from)
+  text-from : (from : ℕ) → From doc r from → skipFrom doc (r .position .0) (r .phase) ≡ from → Turns (stepText doc r last (depthOf cap) from)
   unfolding stepText
   text-from from f e =
-      let s = skip-within from (f .within) in
-      taken-turn _ _ (record { after = omega (arith, f, s); within = s .1; near = omega (arith, f, s); passed = passes-white doc r from e }) (next-cut doc _ (s .1))
+      let w = skipped-within doc (r .settings) from (f .within) in
+      let p = passes-white doc r from e in
+      taken-turn _ _ (record { after = omega (arith, f, p .after); within = w; near = omega (arith, f, p .after); passed = p }) (next-cut doc _ w)
 
   module _ (in-doc : r .position .0 ≤ length doc) (ok : inPlace doc r ≡ true) where
     -- the piece with no bytes where the reader stands
@@ -628,7 +631,7 @@ module _ (doc : List ℕ) (cap : ℕ) (last : Span) (r : Reader) where
     nothing = octets-nothing doc (r .position .0) in-doc
 
     -- where the reader stands, and text may begin
-    module _ (e : textFrom doc (r .position .0) (r .phase) ≡ r .position .0) where
+    module _ (e : skipFrom doc (r .position .0) (r .phase) ≡ r .position .0) where
       here : Fits doc r (span (r .position .0) (r .position .0))
       here = record { after = omega arith; ordered = omega arith; within = in-doc; passed = passes-nothing doc r (r .position .0) e }
 
@@ -640,7 +643,7 @@ module _ (doc : List ℕ) (cap : ℕ) (last : Span) (r : Reader) where
     unfolding inPlace
     from-start e =
         let z : r .position .0 ≡ 0 = eqb-true _ _ (both _ _ (simp e at ok) .0) in
-        record { after = omega arith; within = begin-within doc; near = rw e (omega arith); passed = passes-nothing doc r (begin doc) (ap (textFrom doc (r .position .0)) e) }
+        record { after = omega arith; within = begin-within doc; near = rw e (omega arith); passed = passes-nothing doc r (begin doc) (ap (skipFrom doc (r .position .0)) e) }
 
     module _ (e : r .phase ≡ Phase.InsideEmpty) where
       -- b has one name fewer
@@ -649,7 +652,7 @@ module _ (doc : List ℕ) (cap : ℕ) (last : Span) (r : Reader) where
       expanded-end b l d =
           let z : 0 < r .depth .0 = ltb-true _ _ (simp e at ok) in
           let two : rank doc r ≡ length doc - r .position .0 + 2 = ap (rankAt doc (r .position .0)) e in
-          let s = ap (textFrom doc (r .position .0)) e in
+          let s = ap (skipFrom doc (r .position .0)) e in
           told-turn doc cap last r (span (r .position .0) (r .position .0)) (here s) b Kind.End last _
           Phase.InsideText (l .like) (record { in-place = refl; falls = omega (arith, two, twin-owed r b l (omega arith)) }) nothing
           (told-on doc cap last r (span (r .position .0) (r .position .0)) (here s) b Kind.End last _ Phase.InsideText l (λ e. omega arith) (text-ends doc cap last r (span (r .position .0) (r .position .0)) (here s))) (λ e. absurd (omega arith))
@@ -660,14 +663,14 @@ module _ (doc : List ℕ) (cap : ℕ) (last : Span) (r : Reader) where
       expanded-turn = expanded-end _ (record { like = record { size = refl; settings = refl }; mark = refl }) refl
 
     phase-turn : (p : Phase) → r .phase ≡ p → Turns (stepIn doc r last (depthOf cap) p)
-    phase-turn Phase.Init e = text-from (begin doc) (from-start e) (ap (textFrom doc (r .position .0)) e)
-    phase-turn Phase.InsideText e = let s = ap (textFrom doc (r .position .0)) e in text-from (r .position .0) (stands s (rw e (omega arith))) s
+    phase-turn Phase.Init e = text-from (begin doc) (from-start e) (ap (skipFrom doc (r .position .0)) e)
+    phase-turn Phase.InsideText e = let s = ap (skipFrom doc (r .position .0)) e in text-from (r .position .0) (stands s (rw e (omega arith))) s
     phase-turn Phase.InsideMarkup e =
-        taken-turn _ _ (stands (ap (textFrom doc (r .position .0)) e) (rw e (omega arith))) (markup-cut doc (r .position .0) in-doc (markup-at doc r ok e))
+        taken-turn _ _ (stands (ap (skipFrom doc (r .position .0)) e) (rw e (omega arith))) (markup-cut doc (r .position .0) in-doc (markup-at doc r ok e))
     phase-turn Phase.InsideRef e =
-        taken-turn _ _ (stands (ap (textFrom doc (r .position .0)) e) (rw e (omega arith))) (ref-cut doc (r .position .0) in-doc (ref-at doc r ok e))
+        taken-turn _ _ (stands (ap (skipFrom doc (r .position .0)) e) (rw e (omega arith))) (ref-cut doc (r .position .0) in-doc (ref-at doc r ok e))
     phase-turn Phase.InsideEmpty e = expanded-turn e
-    phase-turn Phase.Done e = end-turn doc cap last r _ (here (ap (textFrom doc (r .position .0)) e)) nothing (inr (e, refl))
+    phase-turn Phase.Done e = end-turn doc cap last r _ (here (ap (skipFrom doc (r .position .0)) e)) nothing (inr (e, refl))
 
 -- a call on a sound state is a turn
 pub step-turn : (doc stack : List ℕ) (r : Reader) → sound doc stack r ≡ true

@@ -3,6 +3,7 @@ use Prim.Native.Nat.{ℕ, _+_, _-_, _≤_, _<_}
 use mathlib.Core.Path.{_≡_, refl, sym, ap, _∙_, subst}
 use mathlib.Core.List.{List}
 use mathlib.Core.Bool.{Bool, true, false}
+use mathlib.Core.Logic.{_⊎_, inl, inr}
 use native.Mathlib.Omega.{arith}
 use lib.ListN.{length, getD, take, drop}
 use lib.Seq.{take-at}
@@ -14,9 +15,9 @@ use Rattle.ground.specs.Equal.{begins}
 use Rattle.ground.specs.Part.{part}
 use Rattle.ground.proofs.Choices.{pick-cases, both, clash, not-false}
 use Rattle.ground.proofs.Equal.{begins-is, begins-long}
-use Rattle.ground.proofs.Lists.{part-in, part-end, part-byte}
-use Rattle.white.specs.White.{isWhite, notWhite, leading}
-use Rattle.white.proofs.Runs.{until-before}
+use Rattle.ground.proofs.Lists.{part-in, part-from, part-end, part-byte}
+use Rattle.white.specs.White.{isWhite, notWhite, until, leading, WhiteWithin}
+use Rattle.white.proofs.Runs.{until-byte, until-inside}
 use Rattle.utf8.specs.Utf8.{inRanges, rowLen, checkFrom, Octets}
 use Rattle.utf8.proofs.Rfc.{ascii-octets, well-formed}
 use Rattle.utf8.proofs.Places.{octets-nothing, octets-parts}
@@ -39,19 +40,28 @@ unfolding checkFrom rowLen inRanges
 bom-octets = well-formed 0 bom .0 refl
 
 -- where a call may begin to pass over white space: behind a byte order mark, if nothing was read before
-abbrev pub textFrom : List ℕ → ℕ → Phase → ℕ
-textFrom doc position Phase.Init = begin doc
-textFrom doc position Phase.InsideText = position
-textFrom doc position Phase.InsideMarkup = position
-textFrom doc position Phase.InsideRef = position
-textFrom doc position Phase.InsideEmpty = position
-textFrom doc position Phase.Done = position
+abbrev pub skipFrom : List ℕ → ℕ → Phase → ℕ
+skipFrom doc position Phase.Init = begin doc
+skipFrom doc position Phase.InsideText = position
+skipFrom doc position Phase.InsideMarkup = position
+skipFrom doc position Phase.InsideRef = position
+skipFrom doc position Phase.InsideEmpty = position
+skipFrom doc position Phase.Done = position
 
--- what a call on r passes over before `from`: white space, and none where it is not asked for
-pub record Passes (doc : List ℕ) (r : Reader) (from : ℕ) : Type 0 where
-  pub after : textFrom doc (r .position .0) (r .phase) ≤ from
-  pub asked : textFrom doc (r .position .0) (r .phase) < from → r .settings .«trim_text_start» ≡ true
-  pub white : (k : ℕ) → textFrom doc (r .position .0) (r .phase) ≤ k → k < from → isWhite (getD doc k 0) ≡ true
+-- which is where the reader stands, but for Init
+pub skips-here : (doc : List ℕ) (position : ℕ) (p : Phase) → (p ≡ Phase.Init) ⊎ (skipFrom doc position p ≡ position)
+skips-here doc position Phase.Init = inl refl
+skips-here doc position Phase.InsideText = inr refl
+skips-here doc position Phase.InsideMarkup = inr refl
+skips-here doc position Phase.InsideRef = inr refl
+skips-here doc position Phase.InsideEmpty = inr refl
+skips-here doc position Phase.Done = inr refl
+
+-- what a call on r passes over before `from`, behind a byte order mark: white space, and none where it is not asked for
+pub record PassesOver (doc : List ℕ) (r : Reader) (from : ℕ) : Type 0 where
+  pub after : skipFrom doc (r .position .0) (r .phase) ≤ from
+  pub asked : skipFrom doc (r .position .0) (r .phase) < from → r .settings .«trim_text_start» ≡ true
+  pub white : WhiteWithin doc (skipFrom doc (r .position .0) (r .phase)) from
 
 module _ (doc : List ℕ) where
   -- where text begins lies in the document
@@ -62,57 +72,60 @@ module _ (doc : List ℕ) where
       (λ e. begins-long doc bom e)
       (λ _. omega arith)
 
-  module _ (r : Reader) (from : ℕ) (e : textFrom doc (r .position .0) (r .phase) ≡ from) where
-    pub passes-nothing : Passes doc r from
+  module _ (r : Reader) (from : ℕ) (e : skipFrom doc (r .position .0) (r .phase) ≡ from) where
+    pub passes-nothing : PassesOver doc r from
     passes-nothing = record { after = omega arith; asked = λ h. absurd (omega arith); white = λ k h i. absurd (omega arith) }
 
     -- "with `trim_text_start`, skip white space"
-    pub passes-white : Passes doc r (skipped doc (r .settings) from)
+    pub passes-white : PassesOver doc r (skipped doc (r .settings) from)
     unfolding skipped
     passes-white =
-        pick-cases (Passes doc r) (r .settings .«trim_text_start») _ _
+        pick-cases (PassesOver doc r) (r .settings .«trim_text_start») _ _
         (λ on. record { after = omega arith; asked = λ _. on; white = λ k h i. white-before k (omega arith) i })
         (λ _. passes-nothing)
       where
-        white-before : (k : ℕ) → from ≤ k → k < from + leading (part doc from (length doc)) → isWhite (getD doc k 0) ≡ true
+        white-before : WhiteWithin doc from (from + leading (part doc from (length doc)))
         white-before k h i =
-            let bs = part doc from (length doc) in
-            let b = until-before notWhite bs (k - from) (omega arith) in
             let n : from + (k - from) ≡ k = omega arith in
-            let at : getD bs (k - from) 0 ≡ getD doc k 0 =
-            part-byte doc from (length doc) (k - from) (omega arith) (omega (arith, b .0, part-end doc from (length doc))) ∙ ap (λ (p : ℕ). getD doc p 0) n in
-            rw (← at) (not-false (isWhite (getD bs (k - from) 0)) (b .1))
+            let l : leading (part doc from (length doc)) ≡ until notWhite (drop from doc) = ap leading (part-from doc from) in
+            not-false (isWhite (getD doc k 0)) (ap (λ (p : ℕ). notWhite (getD doc p 0)) (sym n) ∙ until-byte notWhite doc from (k - from) (omega arith) .1)
 
-  white-octets : (from to : ℕ) → to ≤ length doc → ((k : ℕ) → from ≤ k → k < to → isWhite (getD doc k 0) ≡ true) → Octets (part doc from to)
+  pub skipped-within : (c : Config) (from : ℕ) → from ≤ length doc → skipped doc c from ≤ length doc
+  unfolding skipped
+  skipped-within c from h =
+      pick-cases (λ (to : ℕ). to ≤ length doc) (c .«trim_text_start») _ _
+      (λ _. let l : leading (part doc from (length doc)) ≡ until notWhite (drop from doc) = ap leading (part-from doc from) in
+      omega (arith, until-inside notWhite doc from))
+      (λ _. h)
+
+  white-octets : (from to : ℕ) → to ≤ length doc → WhiteWithin doc from to → Octets (part doc from to)
   white-octets from to h w =
       ascii-octets (part doc from to)
       (λ k i. let l : k < to - from = omega (arith, part-end doc from to) in
       rw (part-byte doc from to k h l) (white-low (getD doc (from + k) 0) (w (from + k) (omega arith) (omega arith))))
 
+  pub bom-bytes : begins doc bom ≡ true → part doc 0 3 ≡ bom
+  bom-bytes e = part-in doc 0 3 (omega arith) (begins-long doc bom e) ∙ ap (take 3) (begins-is doc bom .0 e) ∙ take-at bom (drop 3 doc) 3 refl
+
   begin-octets : Octets (part doc 0 (begin doc))
   unfolding begin
   begin-octets =
       pick-cases (λ (n : ℕ). Octets (part doc 0 n)) (begins doc bom) _ _
-      (λ e. let taken = part-in doc 0 3 (omega arith) (begins-long doc bom e) ∙ ap (take 3) (begins-is doc bom .0 e) ∙ take-at bom (drop 3 doc) 3 refl in
-      subst Octets (sym taken) bom-octets)
+      (λ e. subst Octets (sym (bom-bytes e)) bom-octets)
       (λ _. octets-nothing doc 0 (omega arith))
 
   -- all of it, from where the reader stands
-  pub passes-octets : (r : Reader) (from : ℕ) → inPlace doc r ≡ true → from ≤ length doc → Passes doc r from → Octets (part doc (r .position .0) from)
+  pub passes-octets : (r : Reader) (from : ℕ) → inPlace doc r ≡ true → from ≤ length doc → PassesOver doc r from → Octets (part doc (r .position .0) from)
   unfolding inPlace
-  passes-octets r from ok h p = by (r .phase) refl
+  passes-octets r from ok h p = by (skips-here doc (r .position .0) (r .phase))
     where
       -- from a place from which it is white
-      whites : {at : ℕ} → textFrom doc (r .position .0) (r .phase) ≡ at → Octets (part doc at from)
+      whites : {at : ℕ} → skipFrom doc (r .position .0) (r .phase) ≡ at → Octets (part doc at from)
       whites {at} e = white-octets at from h (λ k a i. p .white k (omega arith) i)
 
-      by : (q : Phase) → r .phase ≡ q → Octets (part doc (r .position .0) from)
-      by Phase.Init e =
+      by : (r .phase ≡ Phase.Init) ⊎ (skipFrom doc (r .position .0) (r .phase) ≡ r .position .0) → Octets (part doc (r .position .0) from)
+      by (inl e) =
           let z : r .position .0 ≡ 0 = eqb-true _ _ (both _ _ (simp e at ok) .0) in
-          let b : textFrom doc (r .position .0) (r .phase) ≡ begin doc = ap (textFrom doc (r .position .0)) e in
+          let b : skipFrom doc (r .position .0) (r .phase) ≡ begin doc = ap (skipFrom doc (r .position .0)) e in
           rw z (octets-parts doc 0 (begin doc) from (omega arith) (omega (arith, p .after)) h begin-octets (whites b))
-      by Phase.InsideText e = whites (ap (textFrom doc (r .position .0)) e)
-      by Phase.InsideMarkup e = whites (ap (textFrom doc (r .position .0)) e)
-      by Phase.InsideRef e = whites (ap (textFrom doc (r .position .0)) e)
-      by Phase.InsideEmpty e = whites (ap (textFrom doc (r .position .0)) e)
-      by Phase.Done e = whites (ap (textFrom doc (r .position .0)) e)
+      by (inr e) = whites e

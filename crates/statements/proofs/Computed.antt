@@ -1,5 +1,5 @@
--- The statements of the demands, computed on the examples of demand 3, and that on the bytes of a document, on the sheets: with a wrong definition of a call that a clause speaks of, the two sides differ.
--- Assumes nothing.
+-- The statements of the demands, computed on the examples of demand 3, and that on the bytes of a document, on the sheets: with a wrong definition of a call
+-- that a clause speaks of, the two sides differ. Assumes nothing.
 use mathlib.Core.Path.{_≡_, refl, sym, _∙_}
 use mathlib.Core.List.{map}
 use Rattle.state.specs.Make.{badState}
@@ -7,7 +7,7 @@ use Rattle.demands.specs.Answers.{count, oneIs}
 use Rattle.demands.specs.Open.{leftOpen}
 use Rattle.demands.specs.Laid.{layout, piecesIn}
 use Rattle.demands.specs.Openings.{openings}
-use Rattle.demands.specs.Sheets.{ran, setBy, sheets}
+use Rattle.demands.specs.Sheets.{ran, pageOf, sheets}
 use Rattle.ground.specs.Equal.{begins, same}
 use Rattle.white.specs.White.{until, keptOf}
 use Rattle.utf8.specs.Utf8.{inRanges, rowLen, checkFrom}
@@ -47,5 +47,5 @@ end-comes = refl
 
 -- THEOREM: every byte before the position is in one part, the parts are what they are called, and the pieces are those of the answers
 pub bytes-are-set-once : map laidSide sheets ≡ map askedSide sheets
-unfolding laidSide askedSide places setBy ran sheets layout piecesIn count badState closeExpandedEmpty run call step stepPhase stepText begin skipped taken checked emitted sound inPlace latest pushed written cutNext cutMarkup cutQuestion cutBang cutMarked cutTag unclosedTag cutRef cutText phaseAt whole stop emitStart opening tag slashed emitEnd matched differs unmatched endEvent closingName emitQuestionMark questionEvent isDecl emitCData emitComment checkedComment bangEvent emitDangling emitRef emitLastText emitText textContent stopped refused ending refusesEnd ended told marked withDepth moved fresh inner capacity feed checkFrom rowLen inRanges keptOf until begins same
+unfolding laidSide askedSide places pageOf ran sheets layout piecesIn count badState closeExpandedEmpty run call step stepPhase stepText begin skipped taken checked emitted sound inPlace latest pushed written cutNext cutMarkup cutQuestion cutBang cutMarked cutTag unclosedTag cutRef cutText phaseAt whole stop emitStart opening tag slashed emitEnd matched differs unmatched endEvent closingName emitQuestionMark questionEvent isDecl emitCData emitComment checkedComment bangEvent emitDangling emitRef emitLastText emitText textContent stopped refused ending refusesEnd ended told marked withDepth moved fresh inner capacity feed checkFrom rowLen inRanges keptOf until begins same
 bytes-are-set-once = refl

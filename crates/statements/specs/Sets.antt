@@ -10,13 +10,12 @@ use Rattle.white.specs.White.{leading}
 use Rattle.state.specs.declared.place.Span.{Span}
 use Rattle.reader.specs.Names.{bytes}
 use Rattle.reader.specs.Step.{bom}
-use Rattle.demands.specs.Answers.{count}
-use Rattle.demands.specs.Laid.{What, Laid, pieces, piecesIn, holds}
-use Rattle.demands.specs.Sheets.{Sheet, ran, setBy}
+use Rattle.demands.specs.Laid.{What, Laid, pieces, piecesIn, timesSet}
+use Rattle.demands.specs.Sheets.{Sheet, ran, pageOf}
 
 pub record SetSide : Type 0 where
-  pub counts : List ℕ
-  pub named : List Bool
+  pub inParts : List ℕ
+  pub asNamed : List Bool
   pub answered : List Span
 
 -- the first n places
@@ -26,28 +25,28 @@ places (suc n) = places n ++ (n ∷ [])
 
 -- a part is what it is called
 module _ (x : Sheet) (part : Laid) where
-  abbrev isSo : What → Bool
-  isSo What.ByteOrderMark = pick (eqb (part .span .from) 0) (same (bytes (x .doc) (part .span)) bom) false
-  isSo What.WhiteSpace = pick (x .settings .«trim_text_start») (eqb (leading (bytes (x .doc) (part .span))) (length (bytes (x .doc) (part .span)))) false
-  isSo What.Piece = true
+  abbrev isNamed : What → Bool
+  isNamed What.ByteOrderMark = pick (eqb (part .span .from) 0) (same (bytes (x .doc) (part .span)) bom) false
+  isNamed What.WhiteSpace = pick (x .settings .«trim_text_start») (eqb (leading (bytes (x .doc) (part .span))) (length (bytes (x .doc) (part .span)))) false
+  isNamed What.Piece = true
 
-  abbrev pub so : Bool
-  so = isSo (part .what)
+  abbrev pub rightlyNamed : Bool
+  rightlyNamed = isNamed (part .what)
 
 -- how many parts each byte is in, which parts are what they are called, and which are pieces
 unfoldable pub laidSide : Sheet → SetSide
 laidSide x =
     record {
-      counts = map (λ (place : ℕ). count (holds place) (setBy x .parts)) (places (length (x .doc)));
-      named = map (λ (part : Laid). so x part) (setBy x .parts);
-      answered = piecesIn (setBy x .parts);
+      inParts = map (λ (place : ℕ). timesSet place (pageOf x .parts)) (places (length (x .doc)));
+      asNamed = map (λ (part : Laid). rightlyNamed x part) (pageOf x .parts);
+      answered = piecesIn (pageOf x .parts);
     }
 
--- one for each byte before the position and none for the others, all, and those of the answers in their order
+-- one for each byte before the position and none for the others; every part; and those of the answers, in their order
 unfoldable pub askedSide : Sheet → SetSide
 askedSide x =
     record {
-      counts = replicate (setBy x .position) 1 ++ replicate (length (x .doc) - setBy x .position) 0;
-      named = map (λ (part : Laid). true) (setBy x .parts);
+      inParts = replicate (pageOf x .position) 1 ++ replicate (length (x .doc) - pageOf x .position) 0;
+      asNamed = map (λ (part : Laid). true) (pageOf x .parts);
       answered = reverse (pieces (ran x .answers));
     }

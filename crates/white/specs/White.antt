@@ -44,6 +44,10 @@ kept bs = keptOf bs (length bs)
 abbrev pub EndsAt : (ℕ → Bool) → List ℕ → ℕ → Type 0
 EndsAt test bs n = (n ≡ length bs) ⊎ ((n < length bs) × (test (getD bs n 0) ≡ true))
 
+-- from n up to m only white space stands
+abbrev pub WhiteWithin : List ℕ → ℕ → ℕ → Type 0
+WhiteWithin bs n m = (k : ℕ) → n ≤ k → k < m → isWhite (getD bs k 0) ≡ true
+
 -- from n on only white space stands
 abbrev pub WhiteFrom : List ℕ → ℕ → Type 0
 WhiteFrom bs n = (k : ℕ) → n ≤ k → k < length bs → isWhite (getD bs k 0) ≡ true
