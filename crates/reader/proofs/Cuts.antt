@@ -50,15 +50,15 @@ fewest Shape.QuestionMark = 1
 fewest Shape.End = 1
 fewest Shape.Start = 2
 
--- markup begins with `<`, and the last text ends with the document
+-- markup begins with `<`, what is no tag ends with `>`, and the last text with the document
 abbrev pub Edges : List ℕ → ℕ → ℕ → Shape → Type 0
 Edges doc from to Shape.Text = Unit {0}
 Edges doc from to Shape.LastText = to ≡ length doc
 Edges doc from to Shape.GeneralRef = Unit {0}
 Edges doc from to Shape.Dangling = Unit {0}
-Edges doc from to Shape.Comment = getD doc from 0 ≡ lt
-Edges doc from to Shape.CData = getD doc from 0 ≡ lt
-Edges doc from to Shape.QuestionMark = getD doc from 0 ≡ lt
+Edges doc from to Shape.Comment = (getD doc from 0 ≡ lt) × (getD doc (to - 1) 0 ≡ gt)
+Edges doc from to Shape.CData = (getD doc from 0 ≡ lt) × (getD doc (to - 1) 0 ≡ gt)
+Edges doc from to Shape.QuestionMark = (getD doc from 0 ≡ lt) × (getD doc (to - 1) 0 ≡ gt)
 Edges doc from to Shape.End = getD doc from 0 ≡ lt
 Edges doc from to Shape.Start = getD doc from 0 ≡ lt
 
@@ -197,9 +197,11 @@ module _ (doc : List ℕ) (from : ℕ) where
         not-first n (inr (inr (inl e))) = inl e
 
     -- a piece up to the `>` at p, which was found
-    closed : (shape : Shape) (p : ℕ) → from + fewest shape ≤ p + 1 → p < length doc → getD doc p 0 ≡ gt → Edges doc from (p + 1) shape
-        → Here (whole shape from (p + 1) Phase.InsideText)
-    closed shape p m t g o = whole-cut shape (p + 1) Phase.InsideText (omega arith) (omega arith) m o tt (closed-border doc p (omega arith))
+    closed : (shape : Shape) (p : ℕ) → from + fewest shape ≤ p + 1 → p < length doc → getD doc p 0 ≡ gt
+        → ((to : ℕ) → getD doc (to - 1) 0 ≡ gt → Edges doc from to shape) → Here (whole shape from (p + 1) Phase.InsideText)
+    closed shape p m t g o =
+        let last : p + 1 - 1 ≡ p = omega arith in
+        whole-cut shape (p + 1) Phase.InsideText (omega arith) (omega arith) m (o (p + 1) (rw last g)) tt (closed-border doc p (omega arith))
 
     unclosed : (error : Error) → OpenError error → Here (stop error from (length doc))
     unclosed error p = stop-cut error (length doc) h (omega arith) (p .0) (at-length (p .1) refl)
@@ -210,28 +212,28 @@ module _ (doc : List ℕ) (from : ℕ) where
     -- markup, at a `<`
     module _ (l : getD doc from 0 ≡ lt) where
       -- its `>` stands behind the `<`
-      tag-cut : (shape : Shape) → fewest shape ≤ 2 → ((to : ℕ) → Edges doc from to shape) → Here (cutTag doc from shape)
+      tag-cut : (shape : Shape) → fewest shape ≤ 2 → ((to : ℕ) → getD doc (to - 1) 0 ≡ gt → Edges doc from to shape) → Here (cutTag doc from shape)
       unfolding cutTag
       tag-cut shape f o =
           tag-cases Here (elementFound doc from) _ _
           (λ p e. let t = found-has TagFound.At _ _ (element-gives doc from) (elementFound doc from) p refl e in
           let apart : from ≡ p → ⊥ = λ z. omega (arith, t .closes, ap (λ (k : ℕ). getD doc k 0) z) in
-          closed shape p (omega (arith, t .after)) (t .within) (t .closes) (o (p + 1)))
+          closed shape p (omega (arith, t .after)) (t .within) (t .closes) o)
           (unclosed _ (unclosed-tag (elementFound doc from)))
 
-      marked-cut : (found : MarksFound) (shape : Shape) (error : Error) → fewest shape ≤ 1 → ((to : ℕ) → Edges doc from to shape) → OpenError error
+      marked-cut : (found : MarksFound) (shape : Shape) (error : Error) → fewest shape ≤ 1 → ((to : ℕ) → getD doc (to - 1) 0 ≡ gt → Edges doc from to shape) → OpenError error
           → ((p : ℕ) → found ≡ MarksFound.At p → (from ≤ p) × (p < length doc) × (getD doc p 0 ≡ gt)) → Here (cutMarked doc from found shape error)
       unfolding cutMarked
-      marked-cut found shape error f o q w = marks-cases Here found _ _ (λ p e. closed shape p (omega (arith, w p e .0)) (w p e .1) (w p e .2) (o (p + 1))) (unclosed error q)
+      marked-cut found shape error f o q w = marks-cases Here found _ _ (λ p e. closed shape p (omega (arith, w p e .0)) (w p e .1) (w p e .2) o) (unclosed error q)
 
       bang-cut : (third : ℕ) → Here (cutBang doc from third)
       unfolding cutBang
       bang-cut third =
           pick-cases Here (eqb third openBracket) _ _
-          (λ _. marked-cut (cdataFound doc from) Shape.CData Error.UnclosedCData (omega arith) (λ _. l) ((omega arith, refl), omega arith)
+          (λ _. marked-cut (cdataFound doc from) Shape.CData Error.UnclosedCData (omega arith) (λ _ g. (l, g)) ((omega arith, refl), omega arith)
           (λ p e. let t = found-has MarksFound.At _ _ (cdata-gives doc from) (cdataFound doc from) p refl e in omega (arith, t)))
           (λ _. pick-cases Here (eqb third hyphen) _ _
-          (λ _. marked-cut (commentFound doc from) Shape.Comment Error.UnclosedComment (omega arith) (λ _. l) ((omega arith, refl), omega arith)
+          (λ _. marked-cut (commentFound doc from) Shape.Comment Error.UnclosedComment (omega arith) (λ _ g. (l, g)) ((omega arith, refl), omega arith)
           (λ p e. let t = found-has MarksFound.At _ _ (comment-gives doc from) (commentFound doc from) p refl e in omega (arith, t)))
           (λ _. pick-cases Here (eqb third upperD) _ _
           (λ _. stays Error.DocType (omega arith, refl) (kept (inr (inl refl)) refl))
@@ -243,7 +245,7 @@ module _ (doc : List ℕ) (from : ℕ) where
       unfolding cutQuestion
       question-cut =
           marks-cases Here (piFound doc from) _ _
-          (λ p e. let t = found-has MarksFound.At _ _ (pi-gives doc from) (piFound doc from) p refl e in closed Shape.QuestionMark p (omega (arith, t)) (omega (arith, t)) (t .closes) l)
+          (λ p e. let t = found-has MarksFound.At _ _ (pi-gives doc from) (piFound doc from) p refl e in closed Shape.QuestionMark p (omega (arith, t)) (omega (arith, t)) (t .closes) (λ _ g. (l, g)))
           (unclosed _ (unclosed-question doc from))
 
       pub markup-cut : Here (cutMarkup doc from)
@@ -255,7 +257,7 @@ module _ (doc : List ℕ) (from : ℕ) where
           (λ _. bang-cut (getD doc (from + 2) 0))
           (λ _. pick-cases Here (eqb (getD doc (from + 1) 0) question) _ _
           (λ _. question-cut)
-          (λ _. pick-cases Here (eqb (getD doc (from + 1) 0) slash) _ _ (λ _. tag-cut Shape.End (omega arith) (λ _. l)) (λ _. tag-cut Shape.Start (omega arith) (λ _. l)))))
+          (λ _. pick-cases Here (eqb (getD doc (from + 1) 0) slash) _ _ (λ _. tag-cut Shape.End (omega arith) (λ _ _. l)) (λ _. tag-cut Shape.Start (omega arith) (λ _ _. l)))))
 
     pub next-cut : Here (cutNext doc from)
     unfolding cutNext

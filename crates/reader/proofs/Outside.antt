@@ -9,19 +9,19 @@ use native.Mathlib.Omega.{arith}
 use lib.ListN.{length, drop, getD}
 use lib.Dec.{eqb, leb, ltb}
 use borrow.Author.Tests.{eq-eqb, ne-eqb, eqb-true, eqb-false, ltb-true, ltb-false, lt-ltb}
-use Rattle.ground.specs.Bytes.{lt}
+use Rattle.ground.specs.Bytes.{gt, lt}
 use Rattle.ground.specs.Choose.{pick}
 use Rattle.ground.specs.Equal.{begins, same}
 use Rattle.ground.specs.Part.{part}
 use Rattle.ground.proofs.Choices.{pick-cases, clash, both, not-true, not-false}
-use Rattle.ground.proofs.Equal.{begins-long, same-is}
+use Rattle.ground.proofs.Equal.{same-is}
 use Rattle.ground.proofs.Lists.{part-end}
-use Rattle.white.specs.White.{isWhite, notWhite, leading, nameLen}
+use Rattle.white.specs.White.{isWhite, nameLen}
 use Rattle.white.proofs.Runs.{until-within}
 use Rattle.utf8.specs.Utf8.{check, byUtf8, Octets}
 use Rattle.utf8.specs.declared.Utf8.{Utf8}
 use Rattle.utf8.proofs.Rfc.{well-formed}
-use Rattle.utf8.proofs.Places.{octets-nothing, octets-parts, ill-here, ill-first}
+use Rattle.utf8.proofs.Places.{octets-nothing, ill-here, ill-first}
 use Rattle.parser.specs.Hyphens.{pairFound}
 use Rattle.parser.proofs.Cases.{first-cases}
 use Rattle.parser.proofs.Words.{pair-first, pair-behind, pair-nowhere}
@@ -51,10 +51,10 @@ use Rattle.emit.specs.Start.{slashed, tag, opening, emitStart}
 use Rattle.reader.specs.declared.piece.Shape.{Shape}
 use Rattle.reader.specs.declared.piece.Piece.{Piece}
 use Rattle.reader.specs.declared.piece.Cut.{Cut}
-use Rattle.reader.specs.Left.{Left, kept, after-piece}
+use Rattle.reader.specs.Left.{Left, kept, after-bracket, after-piece}
 use Rattle.reader.specs.Names.{latest, nameOf, bytes}
 use Rattle.reader.specs.Sound.{inPlaceIn, inPlace, sound}
-use Rattle.reader.specs.Step.{emittedAs, emitted, checked, taken, skipped, stepText, bom, begin, stepIn, stepPhase, step, FirstIll}
+use Rattle.reader.specs.Step.{emittedAs, emitted, checked, taken, stepText, begin, stepIn, stepPhase, step, FirstIll}
 use Rattle.reader.proofs.Cuts.{fewest, Edges, Lands, Plain, PlainError, StopError, Lies, CutOff, CutAt, next-cut, markup-cut, ref-cut}
 use Rattle.reader.proofs.Passed.{skipFrom, PassesOver, begin-within, passes-nothing, passes-white, skipped-within}
 use Rattle.reader.proofs.States.{sound-true, markup-at, ref-at}
@@ -401,7 +401,7 @@ module _ (doc : List ℕ) (cap : ℕ) (last : Span) (r : Reader) (piece : Span) 
     dangling-turn next l =
         pick-cases Turn (r .settings .«allow_dangling_amp») _ _
         (λ _. told-quiet Kind.Text piece 0 next (to-next some next l) (lands-ends next l) (some .whole) (omega arith))
-        (λ _. refused-quiet Error.UnclosedReference _ next (to-next some next l) (lands-ends next l) (λ _. some .whole) (omega arith) refl (after-piece (inr (omega arith)) (some .has)))
+        (λ _. refused-quiet Error.UnclosedReference _ next (to-next some next l) (lands-ends next l) (λ _. some .whole) (omega arith) refl (after-piece (omega arith) (omega arith) (some .has)))
 
     -- an event after which text goes on
     plain-turn : (kind : Kind) (content : Span) (name : ℕ) → Silent kind → Turn (told r (event kind piece content name) Phase.InsideText)
@@ -433,28 +433,28 @@ module _ (doc : List ℕ) (cap : ℕ) (last : Span) (r : Reader) (piece : Span) 
         (λ t. remark-turn _ (λ _ h. pair-behind doc from to p e (ltb-true to p t) (h .0) (h .1)))
         (λ t. refused-turn r Error.DoubleHyphenInComment _ Phase.InsideText (twin-itself r .like) (to-text some r (omega arith)) (λ _. some .whole)
         (refused-on r Error.DoubleHyphenInComment _ Phase.InsideText (twin-itself r) (λ e. omega arith) refl text-ends)
-        (λ _. (on, pair-first doc from to p e (ltb-false to p t)), λ e. absurd (omega arith)) (λ _. after-piece (inr (omega arith)) (some .has)) (keeps (omega arith) refl)))
+        (λ _. (on, pair-first doc from to p e (ltb-false to p t)), λ e. absurd (omega arith)) (λ _. after-piece (omega arith) (omega arith) (some .has)) (keeps (omega arith) refl)))
         (λ e. remark-turn _ (λ _ h. pair-nowhere doc from to e (h .0) (h .1)))
 
-    comment-turn : Turn (emitComment doc r piece)
+    comment-turn : getD doc (piece .to - 1) 0 ≡ gt → Turn (emitComment doc r piece)
     unfolding emitComment
-    comment-turn =
+    comment-turn g =
         pick-cases Turn (begins (drop (piece .from) doc) commentOpener) _ _
         (λ _. pick-cases Turn (r .settings .«check_comments») _ _ (λ on. checked-turn on) (λ off. remark-turn _ (λ on. clash _ on off)))
-        (λ _. stopped-quiet Error.UnclosedComment _ (omega arith, refl) (after-piece (inl (omega arith)) (some .has)))
+        (λ _. stopped-quiet Error.UnclosedComment _ (omega arith, refl) (after-bracket (omega arith) (omega arith) (some .has) g))
 
-    cdata-turn : Turn (emitCData doc r piece)
+    cdata-turn : getD doc (piece .to - 1) 0 ≡ gt → Turn (emitCData doc r piece)
     unfolding emitCData
-    cdata-turn =
+    cdata-turn g =
         pick-cases Turn (begins (drop (piece .from) doc) cdataOpener) _ _
         (λ _. bang-turn Kind.CData _ (omega arith))
-        (λ _. stopped-quiet Error.UnclosedCData _ (omega arith, refl) (after-piece (inl (omega arith)) (some .has)))
+        (λ _. stopped-quiet Error.UnclosedCData _ (omega arith, refl) (after-bracket (omega arith) (omega arith) (some .has) g))
 
-    question-turn : Turn (emitQuestionMark doc r piece)
+    question-turn : getD doc (piece .to - 1) 0 ≡ gt → Turn (emitQuestionMark doc r piece)
     unfolding emitQuestionMark questionEvent
-    question-turn =
+    question-turn g =
         pick-cases Turn (ltb (size piece) 4) _ _
-        (λ _. stopped-quiet Error.UnclosedPI _ (omega arith, refl) (after-piece (inl (omega arith)) (some .has)))
+        (λ _. stopped-quiet Error.UnclosedPI _ (omega arith, refl) (after-bracket (omega arith) (omega arith) (some .has) g))
         (λ _. pick-cases (λ (e : Event). Turn (told r e Phase.InsideText)) (isDecl (bytes doc (inner piece 2 2))) _ _
         (λ _. plain-turn Kind.Decl _ 3 (omega arith))
         (λ _. plain-turn Kind.PI _ _ (omega arith)))
@@ -475,7 +475,7 @@ module _ (doc : List ℕ) (cap : ℕ) (last : Span) (r : Reader) (piece : Span) 
           (λ on. stray-turn z on)
           (λ off. refused-turn r (Error.UnmatchedEndTag name) _ Phase.InsideText (twin-itself r .like) (to-text some r (omega arith)) (λ _. some .whole)
           (refused-on r (Error.UnmatchedEndTag name) _ Phase.InsideText (twin-itself r) (λ e. omega arith) refl text-ends)
-          (λ e. absurd (omega arith), λ e. absurd (omega arith)) (λ _. after-piece (inr (omega arith)) (some .has)) (unmatches refl z z off))
+          (λ e. absurd (omega arith), λ e. absurd (omega arith)) (λ _. after-piece (omega arith) (omega arith) (some .has)) (unmatches refl z z off))
 
       -- b has one name fewer
       module _ (z : 0 < r .depth .0) (b : Reader) (l : Twin r b) (d : b .depth .0 ≡ r .depth .0 - 1) where
@@ -496,7 +496,7 @@ module _ (doc : List ℕ) (cap : ℕ) (last : Span) (r : Reader) (piece : Span) 
             (λ e. let x = disagrees doc (b .settings) last name e in
             refused-turn b (Error.MismatchedEndTag last name) _ Phase.InsideText (l .like) onward (λ _. some .whole)
             (refused-on b (Error.MismatchedEndTag last name) _ Phase.InsideText l (λ e. omega arith) refl text-ends) (λ e. absurd (omega arith), λ e. absurd (omega arith))
-            (λ _. after-piece (inr (omega arith)) (some .has)) (mismatches refl z d (sym on ∙ x .0) refl (x .1)))
+            (λ _. after-piece (omega arith) (omega arith) (some .has)) (mismatches refl z d (sym on ∙ x .0) refl (x .1)))
             (λ e. closed-turn (λ h. agrees doc (b .settings) last name e (on ∙ h)))
 
     close-turn : Turn (emitEnd doc r last piece)
@@ -582,7 +582,7 @@ module _ (doc : List ℕ) (cap : ℕ) (last : Span) (r : Reader) where
   ill-turn piece f p x =
       refused-turn doc cap last r piece f (marked r) Error.Encoding (at p) Phase.Done (like-marked r) (to-end doc cap last r piece f) (λ n. absurd (n refl))
       (stopped-off doc cap last r piece f Error.Encoding (at p) (λ e. omega arith) refl) (λ e. absurd (omega arith), λ _. x)
-      (λ _. after-piece (inr (omega arith)) (omega (arith, x .has))) (keeps (omega arith) refl)
+      (λ _. after-piece (omega arith) (omega arith) (omega (arith, x .has))) (keeps (omega arith) refl)
 
   module _ (piece : Span) (f : Fits doc r piece) (near : length doc - piece .from + 1 ≤ rank doc r) (whole : Octets (bytes doc piece)) where
     some : piece .from + 1 ≤ piece .to → Some doc r piece
@@ -594,9 +594,9 @@ module _ (doc : List ℕ) (cap : ℕ) (last : Span) (r : Reader) where
     emitted-turn Shape.LastText next m o l = last-turn doc cap last r piece f near whole o
     emitted-turn Shape.GeneralRef next m o l = ref-turn doc cap last r piece f (some m)
     emitted-turn Shape.Dangling next m o l = dangling-turn doc cap last r piece f (some m) next l
-    emitted-turn Shape.Comment next m o l = comment-turn doc cap last r piece f (some m)
-    emitted-turn Shape.CData next m o l = cdata-turn doc cap last r piece f (some m)
-    emitted-turn Shape.QuestionMark next m o l = question-turn doc cap last r piece f (some m)
+    emitted-turn Shape.Comment next m o l = comment-turn doc cap last r piece f (some m) (o .1)
+    emitted-turn Shape.CData next m o l = cdata-turn doc cap last r piece f (some m) (o .1)
+    emitted-turn Shape.QuestionMark next m o l = question-turn doc cap last r piece f (some m) (o .1)
     emitted-turn Shape.End next m o l = close-turn doc cap last r piece f (some m)
     emitted-turn Shape.Start next m o l = start-turn doc cap last r piece f (some (omega arith)) o m (full-turn piece f)
 
