@@ -8,6 +8,7 @@ pub mod Growing
 pub mod Held
 pub mod Joined
 pub mod Laid
+pub mod Layouts
 pub mod Longer
 pub mod OtherSettings
 pub mod Pieces
