@@ -35,7 +35,7 @@ use Rattle.emit.specs.Question.{xml, unclosedQuestion}
 use Rattle.reader.specs.declared.piece.Shape.{Shape}
 use Rattle.reader.specs.declared.piece.Piece.{Piece}
 use Rattle.reader.specs.declared.piece.Cut.{Cut}
-use Rattle.reader.specs.Left.{Left, at-length, lone, kept}
+use Rattle.reader.specs.Left.{Left, at-length, at-lone-bracket, at-start}
 use Rattle.reader.specs.Cut.{whole, stop, phaseAt, cutText, cutRef, unclosedTag, cutTag, cutMarked, cutBang, cutQuestion, cutMarkup, cutNext}
 
 -- how many bytes a piece has at least
@@ -206,8 +206,8 @@ module _ (doc : List ℕ) (from : ℕ) where
     unclosed : (error : Error) → OpenError error → Here (stop error from (length doc))
     unclosed error p = stop-cut error (length doc) h (omega arith) (p .0) (at-length (p .1) refl)
 
-    stays : (error : Error) → StopError error → Left doc (numberedOf error .number) (span from from) → Here (stop error from from)
-    stays error p l = stop-cut error from (omega arith) h p l
+    kept : (error : Error) → StopError error → Left doc (numberedOf error .number) (span from from) → Here (stop error from from)
+    kept error p l = stop-cut error from (omega arith) h p l
 
     -- markup, at a `<`
     module _ (l : getD doc from 0 ≡ lt) where
@@ -236,10 +236,10 @@ module _ (doc : List ℕ) (from : ℕ) where
           (λ _. marked-cut (commentFound doc from) Shape.Comment Error.UnclosedComment (omega arith) (λ _ g. (l, g)) ((omega arith, refl), omega arith)
           (λ p e. let t = found-has MarksFound.At _ _ (comment-gives doc from) (commentFound doc from) p refl e in omega (arith, t)))
           (λ _. pick-cases Here (eqb third upperD) _ _
-          (λ _. stays Error.DocType (omega arith, refl) (kept (inr (inl refl)) refl))
+          (λ _. kept Error.DocType (omega arith, refl) (at-start (inr (inl refl)) refl))
           (λ _. pick-cases Here (eqb third lowerD) _ _
-          (λ _. stays Error.DocType (omega arith, refl) (kept (inr (inl refl)) refl))
-          (λ _. stays Error.InvalidBangMarkup (omega arith, refl) (kept (inl refl) refl)))))
+          (λ _. kept Error.DocType (omega arith, refl) (at-start (inr (inl refl)) refl))
+          (λ _. kept Error.InvalidBangMarkup (omega arith, refl) (at-start (inl refl) refl)))))
 
       question-cut : Here (cutQuestion doc from)
       unfolding cutQuestion
@@ -252,7 +252,7 @@ module _ (doc : List ℕ) (from : ℕ) where
       unfolding cutMarkup
       markup-cut =
           pick-cases Here (leb (length doc) (from + 1)) _ _
-          (λ e. stays Error.UnclosedTag (omega arith, refl) (lone refl refl (omega (arith, leb-true (length doc) (from + 1) e, stands-in doc from lt l (omega arith)))))
+          (λ e. kept Error.UnclosedTag (omega arith, refl) (at-lone-bracket refl refl (omega (arith, leb-true (length doc) (from + 1) e, stands-in doc from lt l (omega arith)))))
           (λ _. pick-cases Here (eqb (getD doc (from + 1) 0) bang) _ _
           (λ _. bang-cut (getD doc (from + 2) 0))
           (λ _. pick-cases Here (eqb (getD doc (from + 1) 0) question) _ _

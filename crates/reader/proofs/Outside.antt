@@ -51,7 +51,7 @@ use Rattle.emit.specs.Start.{slashed, tag, opening, emitStart}
 use Rattle.reader.specs.declared.piece.Shape.{Shape}
 use Rattle.reader.specs.declared.piece.Piece.{Piece}
 use Rattle.reader.specs.declared.piece.Cut.{Cut}
-use Rattle.reader.specs.Left.{Left, kept, after-bracket, after-piece}
+use Rattle.reader.specs.Left.{Left, at-start, after-bracket, after-piece}
 use Rattle.reader.specs.Names.{latest, nameOf, bytes}
 use Rattle.reader.specs.Sound.{inPlaceIn, inPlace, sound}
 use Rattle.reader.specs.Step.{emittedAs, emitted, checked, taken, stepText, begin, stepIn, stepPhase, step, FirstIll}
@@ -574,7 +574,7 @@ module _ (doc : List ℕ) (cap : ℕ) (last : Span) (r : Reader) where
   full-turn piece f =
       stopped-quiet doc cap last r (span (piece .from) (piece .from))
       (record { after = f .after; ordered = omega arith; within = omega (arith, f); passed = f .passed })
-      Error.NameStackFull _ (omega arith, refl) (kept (inr (inr refl)) refl)
+      Error.NameStackFull _ (omega arith, refl) (at-start (inr (inr refl)) refl)
 
   -- 13
   ill-turn : (piece : Span) → Fits doc r piece → (p : ℕ) → FirstIll doc piece p → Turns (stopped r Error.Encoding (at p) piece)

@@ -11,9 +11,9 @@ pub data Left (doc : List ℕ) (number : ℕ) (piece : Span) : Type 0 where
   -- 1 to 7: "length"
   at-length : number ≤ 7 → piece .to ≡ length doc → Left doc number piece
   -- 1: "lone final `<`: kept"
-  lone : number ≡ 1 → piece .to ≡ piece .from → piece .from + 1 ≡ length doc → Left doc number piece
+  at-lone-bracket : number ≡ 1 → piece .to ≡ piece .from → piece .from + 1 ≡ length doc → Left doc number piece
   -- 8, 14 and 15: "kept"
-  kept : (number ≡ 8) ⊎ ((number ≡ 14) ⊎ (number ≡ 15)) → piece .to ≡ piece .from → Left doc number piece
+  at-start : (number ≡ 8) ⊎ ((number ≡ 14) ⊎ (number ≡ 15)) → piece .to ≡ piece .from → Left doc number piece
   -- 4, 5 and 6: "after `>`"
   after-bracket : 4 ≤ number → number ≤ 6 → piece .from < piece .to → getD doc (piece .to - 1) 0 ≡ gt → Left doc number piece
   -- 9 to 13: "after piece"
