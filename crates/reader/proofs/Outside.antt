@@ -577,12 +577,12 @@ module _ (doc : List ℕ) (cap : ℕ) (last : Span) (r : Reader) where
       Error.NameStackFull _ (omega arith, refl) (at-start (inr (inr refl)) refl)
 
   -- 13
-  ill-turn : (piece : Span) → Fits doc r piece → (p : ℕ) → FirstIll doc piece p → Turns (stopped r Error.Encoding (at p) piece)
+  ill-turn : (piece : Span) → Fits doc r piece → piece .from < piece .to → (p : ℕ) → FirstIll doc piece p → Turns (stopped r Error.Encoding (at p) piece)
   unfolding stopped refused moved marked
-  ill-turn piece f p x =
+  ill-turn piece f some p x =
       refused-turn doc cap last r piece f (marked r) Error.Encoding (at p) Phase.Done (like-marked r) (to-end doc cap last r piece f) (λ n. absurd (n refl))
       (stopped-off doc cap last r piece f Error.Encoding (at p) (λ e. omega arith) refl) (λ e. absurd (omega arith), λ _. x)
-      (λ _. after-piece (omega arith) (omega arith) (omega (arith, x .has))) (keeps (omega arith) refl)
+      (λ _. after-piece (omega arith) (omega arith) some) (keeps (omega arith) refl)
 
   module _ (piece : Span) (f : Fits doc r piece) (near : length doc - piece .from + 1 ≤ rank doc r) (whole : Octets (bytes doc piece)) where
     some : piece .from + 1 ≤ piece .to → Some doc r piece
@@ -607,8 +607,8 @@ module _ (doc : List ℕ) (cap : ℕ) (last : Span) (r : Reader) where
       utf8-cases Turns (check (p .span .from) (bytes doc (p .span))) _ _
       (λ e. emitted-turn (p .span) fits (rw (c .lies .starts) (f .near)) (well-formed (p .span .from) (bytes doc (p .span)) .0 e)
       (p .shape) (p .next) (rw (c .lies .starts) (c .moves)) (rw (c .lies .starts) (c .edges)) (c .lands))
-      (λ ill e. ill-turn (p .span) fits ill
-      (ill-first doc (p .span .from) (p .span .to) ill (ill-here doc (p .span .from) (p .span .to) (fits .within) (c .border) (fits .ordered) ill e)))
+      (λ ill e. let here = ill-here doc (p .span .from) (p .span .to) (fits .within) (c .border) (fits .ordered) ill e in
+      ill-turn (p .span) fits (omega (arith, here .after, here .before)) ill (ill-first doc (p .span .from) (p .span .to) ill here))
 
   taken-turn : (from : ℕ) (c : Cut) → From doc r from → CutAt doc from c → Turns (taken doc r last (depthOf cap) c)
   unfolding taken
