@@ -81,8 +81,8 @@ hasByte place s = allOf (leb (s .from) place ∷ ltb place (s .to) ∷ [])
 abbrev pub timesSet : ℕ → List Laid → ℕ
 timesSet place parts = count (λ (x : Laid). hasByte place (x .span)) parts
 
--- THE STATEMENT of a document that was read with these settings, by answers with these pieces, the latest first, up to this position. What it says of the reader
--- are `within`, `follow` and `white`: `once`, `ahead` and `order` come of `follow`, and the rest holds of any pieces, by the definition of the layout
+-- THE STATEMENT of a document that was read with these settings, by answers with these pieces, the latest first, up to this position. Of the reader `within`,
+-- `follow` and `white` say something: `once`, `ahead` and `order` come of `follow`, and the rest holds of any pieces, by the definition of the layout
 pub record SetOnce (doc : List ℕ) (c : Config) (answered : List Span) (position : ℕ) : Type 0 where
   -- the position lies in the document
   pub within : position ≤ length doc

@@ -252,7 +252,7 @@ module _ (doc : List ℕ) (from : ℕ) where
       unfolding cutMarkup
       markup-cut =
           pick-cases Here (leb (length doc) (from + 1)) _ _
-          (λ e. kept Error.UnclosedTag (omega arith, refl) (at-lone-bracket refl refl (omega (arith, leb-true (length doc) (from + 1) e, stands-in doc from lt l (omega arith)))))
+          (λ e. kept Error.UnclosedTag (omega arith, refl) (at-lone-bracket refl refl l (omega (arith, leb-true (length doc) (from + 1) e, stands-in doc from lt l (omega arith)))))
           (λ _. pick-cases Here (eqb (getD doc (from + 1) 0) bang) _ _
           (λ _. bang-cut (getD doc (from + 2) 0))
           (λ _. pick-cases Here (eqb (getD doc (from + 1) 0) question) _ _
