@@ -3,7 +3,7 @@
  * and the number. Then it says how many bytes are in which parts, and how many are left, if a refusal ended the run; of several files, behind the name of the file.
  * Of a document that is too long it says so.
  *
- * Every run is held to an account, by the answers and the document's bytes alone: no byte is set twice, and none dropped. If one fails, the program says where, and
+ * Every run is held to an account, laid out by the answers and the document's bytes alone: no byte is set twice, and none dropped. If one fails, the program says where, and
  * ends with 1.
  *
  * Before the names of the files may stand, in any order, --quiet: then the last line of each file is printed alone; --trim: then white space at both ends of text is
@@ -146,6 +146,9 @@ static int add(struct layout *layout, const struct lent *lent, struct parts *par
 {
     size_t position = lent->state[SPOREBASKET_STATE_POSITION];
 
+    if (lent->answer[SPOREBASKET_ANSWER_KIND] > SPOREBASKET_EOF) {
+        return wrong(layout, "behind byte %zu there is no answer of kind %zu", layout->end, lent->answer[SPOREBASKET_ANSWER_KIND]);
+    }
     *parts = parts_of(layout, lent->answer);
     if (!set_parts(layout, parts, (lent->state[SPOREBASKET_STATE_SETTINGS] & SPOREBASKET_TRIM_TEXT_START) != 0)) {
         return 0;

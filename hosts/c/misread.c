@@ -1,5 +1,5 @@
 /* A reader that tells one number wrongly, to see that who checks its answers notices. MISREAD has the call, counted from 0, the slot of its answer, and what is
- * added there. `tools/hosts` puts it into an archive in the place of the reader's own, which is there under another name. */
+ * added there; the number of a refusal is answered too. `tools/hosts` puts it into an archive in the place of the reader's own, which is there under another name. */
 #include "sporebasket.h"
 
 #include <stdio.h>
@@ -19,6 +19,9 @@ size_t sporebasket_read_event(const uint8_t *document, size_t length, size_t *st
 
     if (fault != NULL && sscanf(fault, "%zu %zu %ld", &call, &slot, &added) == 3 && call == calls && slot < answer_slots) {
         answer[slot] += (size_t)added;
+        if (slot == SPOREBASKET_ANSWER_NUMBER) {
+            refusal = answer[slot];
+        }
     }
     calls++;
     return refusal;

@@ -72,6 +72,8 @@ enum Failure {
     Read(io::Error),
     Write(io::Error),
     Layout(LayoutError),
+    /// Nothing can be read from this byte on.
+    Stuck(usize),
 }
 
 impl From<io::Error> for Failure {
@@ -91,6 +93,7 @@ impl fmt::Display for Failure {
         match self {
             Failure::Read(error) | Failure::Write(error) => error.fmt(f),
             Failure::Layout(error) => error.fmt(f),
+            Failure::Stuck(place) => write!(f, "from byte {place} on nothing can be read"),
         }
     }
 }
@@ -105,6 +108,10 @@ fn lay(document: &[u8], asked: &Asked, out: &mut impl Write) -> Result<String, F
     let mut layout = Layout::new(document);
     loop {
         let answer = reader.read_event();
+        // 17 does not come from a reader that is as it was left; it would come again for ever
+        if let Err(Error::Refused(Refused::BadState)) = answer {
+            return Err(Failure::Stuck(layout.left().start));
+        }
         let parts = layout.add(&reader)?;
         if !asked.quiet {
             for (kind, part) in [("mark", &parts.mark), ("white", &parts.white)] {
@@ -154,7 +161,7 @@ fn main() {
         if let Err(failure) = written.and(laid) {
             eprintln!("layout: {name}{failure}");
             code = match failure {
-                Failure::Layout(_) => 1,
+                Failure::Layout(_) | Failure::Stuck(_) => 1,
                 Failure::Read(_) if code == 1 => 1,
                 Failure::Read(_) => 2,
                 Failure::Write(_) => process::exit(2),

@@ -10,8 +10,8 @@ use std::ops::Range;
 /// The account of a run: no byte is set twice, and none dropped.
 ///
 /// Each byte before the reader's position is in exactly one part: the byte order mark, white space that [`trim_text_start`](Config::trim_text_start) skips, or the piece of one answer, be it
-/// an event or a refusal. At end of file that is every byte, unless a refusal ended the run. This is proved of every run (docs/PROMISES.md). An account holds the reader to it, by the
-/// answers and the document's bytes alone.
+/// an event or a refusal. At end of file that is every byte, unless a refusal ended the run. This is proved of every run (docs/PROMISES.md). An account lays the parts out by
+/// the answers and the document's bytes alone, and holds them to the reader's position and its setting.
 ///
 /// It is told each answer by [`add`](Layout::add), once, right after the call:
 ///
@@ -138,7 +138,7 @@ impl<'a> Layout<'a> {
             }
             parts
         };
-        if matches!(number, 1..=8 | 13..=17) {
+        if matches!(number, 1..=8 | 13..=15) {
             self.stop.get_or_insert(self.end);
         }
         if kind == EOF {
@@ -192,9 +192,6 @@ impl<'a> Layout<'a> {
         for part in [mark, white, piece] {
             self.follow(part)?;
             self.counts.add(part.clone());
-        }
-        if !mark.is_empty() && (mark.start != 0 || &self.document[mark.clone()] != MARK) {
-            return Err(LayoutError::NoMark(mark.start));
         }
         let is_white = |byte: &u8| matches!(byte, b' ' | b'\t' | b'\n' | b'\r');
         if let Some(at) = self.document[white.clone()].iter().position(|byte| !is_white(byte)) {
@@ -293,8 +290,6 @@ pub enum LayoutError {
         /// Where it begins.
         start: usize,
     },
-    /// No byte order mark stands at the start of the document, and one was told here.
-    NoMark(usize),
     /// This byte was skipped, and is no white space.
     NotWhite(usize),
     /// This byte is white space that was skipped, with `trim_text_start` off.
@@ -324,7 +319,6 @@ impl fmt::Display for LayoutError {
                 write!(f, "a part from byte {start} to {end} does not lie in the document")
             }
             LayoutError::Apart { end, start } => write!(f, "a part ends at byte {end}, and the next begins at {start}"),
-            LayoutError::NoMark(place) => write!(f, "no byte order mark is at byte {place}"),
             LayoutError::NotWhite(place) => write!(f, "byte {place} was skipped, and is no white space"),
             LayoutError::NotAsked(place) => write!(f, "byte {place} was skipped, and white space was to stay"),
             LayoutError::Position { parts, reader } => {
@@ -384,28 +378,6 @@ mod tests {
                 Err(LayoutError::Apart { end, start })
             );
         }
-    }
-
-    #[test]
-    fn a_mark_that_is_none_is_noticed() {
-        for document in [&b"\xEF\xBB\xBEa"[..], b"\xEF\xBBa", b"   a"] {
-            assert_eq!(set(document, 0..3, 3..3, 3..3), Err(LayoutError::NoMark(0)));
-        }
-        for end in [1, 2, 4] {
-            assert_eq!(
-                set(b"\xEF\xBB\xBFab", 0..end, end..end, end..5),
-                Err(LayoutError::NoMark(0))
-            );
-        }
-        let document = b"\xEF\xBB\xBF\xEF\xBB\xBF";
-        let mut layout = Layout::new(document);
-        let parts = |mark: Range<usize>, end| Parts {
-            white: mark.end..mark.end,
-            piece: mark.end..end,
-            mark,
-        };
-        assert_eq!(layout.set(&parts(0..0, 3), false), Ok(()));
-        assert_eq!(layout.set(&parts(3..6, 6), false), Err(LayoutError::NoMark(3)));
     }
 
     #[test]

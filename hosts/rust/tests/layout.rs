@@ -345,6 +345,7 @@ fn a_document_that_is_too_long_has_no_part() {
 
 /// The slots of an answer and of a state that an account looks at, and what some hold.
 const KIND: usize = 0;
+const NUMBER: usize = 1;
 const PIECE: usize = 3;
 const PIECE_END: usize = 4;
 const POSITION: usize = 1;
@@ -506,6 +507,29 @@ fn an_end_of_file_before_the_end_is_noticed() {
 }
 
 #[test]
+fn a_bad_state_ends_no_run() {
+    // an end of file before the end, behind a 17, is noticed
+    let document = b"<a/>b";
+    let mut told = run(document, 0);
+    let mut bad = told[0];
+    bad.0 = [0; ANSWER_SLOTS];
+    bad.0[NUMBER] = 17;
+    told.insert(1, bad);
+    end_of_file(&mut told[2], 4);
+    let count = LayoutError::Count {
+        place: 4,
+        parts: 0,
+        wanted: 1,
+    };
+    assert_eq!(account(document, &told), Err(count));
+    // and a host that lent another document for a call may go on
+    let document = b"<a></a>";
+    let mut told = run(document, 0);
+    told.insert(1, (bad.0, told[0].1));
+    assert_eq!(account(document, &told), Ok(()));
+}
+
+#[test]
 fn bytes_set_behind_the_refusal_that_ended_the_run_are_noticed() {
     let count = LayoutError::Count {
         place: 1,
@@ -565,7 +589,6 @@ fn every_fault_has_a_text_of_its_own() {
             LayoutError::Apart { end: 2, start: 0 },
             "a part ends at byte 2, and the next begins at 0",
         ),
-        (LayoutError::NoMark(0), "no byte order mark is at byte 0"),
         (LayoutError::NotWhite(3), "byte 3 was skipped, and is no white space"),
         (
             LayoutError::NotAsked(3),
