@@ -107,12 +107,10 @@ impl Layout {
         let mark = order_mark(case.document);
         let one = |at: usize| {
             let held = self.held[at / WORD] >> (at % WORD) & 1 == 1;
-            let skipped = || case.settings & TRIM_START != 0 && is_white(case.document[at]);
-            match (at < position, at < mark) {
-                (true, false) => held || skipped(),
-                (true, true) => !held,
-                (false, marked) => !held && !marked,
+            if at < mark || at >= position {
+                return !held;
             }
+            held || case.settings & TRIM_START != 0 && is_white(case.document[at])
         };
         let word = |(i, &held): (usize, &u64)| {
             let first = i * WORD;
@@ -120,7 +118,8 @@ impl Layout {
             held == bits(position) & !bits(mark) || (first..case.document.len().min(first + WORD)).all(one)
         };
         let words = &self.held[..case.document.len() / WORD + 1];
-        if self.twice || position > case.document.len() || !words.iter().enumerate().all(word) {
+        let within = mark <= position && position <= case.document.len();
+        if self.twice || !within || !words.iter().enumerate().all(word) {
             return COUNT;
         }
         0
