@@ -60,7 +60,11 @@ enum {
 /* The slots of an answer, and the kinds of an event. Of an event NUMBER and PLACE are 0; of a refusal KIND, the content and NAME are; EXPECTED
  * and FOUND are 0 but in refusals 10 and 11 (11 has no EXPECTED). The PLACE of a refusal is where its piece begins, but in refusal 9, where it is the
  * first hyphen of the first pair, in refusal 13, where it is the first byte of the first sequence of the piece that is not UTF-8, and in refusal 18, where
- * it is the first byte of the latest open name. A span is its first byte's place in the document and the place after its last. */
+ * it is the first byte of the latest open name. A span is its first byte's place in the document and the place after its last.
+ *
+ * In a run each piece begins where the one before it ended, or behind white space there that SPOREBASKET_TRIM_TEXT_START skips, the first behind a byte order
+ * mark too, and ends at the state's POSITION. So each byte before the position is in exactly one of the mark, skipped white space and the pieces; at end of file
+ * that is every byte, unless a refusal ended the run (1 to 8, 13 to 15). */
 enum {
     SPOREBASKET_ANSWER_KIND,
     SPOREBASKET_ANSWER_NUMBER,
