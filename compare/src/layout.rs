@@ -1,5 +1,5 @@
-//! No byte set twice, none dropped: what the pieces of a run's answers have to be to each other, to the position that is left and to the bytes of the document. Nothing
-//! else is looked at. The parts of a layout are a byte order mark that the document begins with, white space that `trim_text_start` skips, and the piece of each answer.
+//! No byte set twice, none dropped: what the pieces of a run's answers have to be to each other, to the position that is left and to the bytes of the document. Besides
+//! these only the settings and an answer's kind and number are looked at. The parts of a layout are a byte order mark that the document begins with, white space that `trim_text_start` skips, and the piece of each answer.
 
 use crate::check::{is_white, Case, COUNT, DROPPED, ORDER};
 use crate::ours::*;
