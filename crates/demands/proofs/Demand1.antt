@@ -220,6 +220,9 @@ module _ (doc stack : List ℕ) (c : Config) (short : length doc ≤ longest) wh
       unfolding run call ended told
       rest-reader = ap (λ (s : Step). s .reader) rests ∙ still (after n .reader) done told-once
 
+      pub rest-again : (after (suc n) .reader .phase ≡ Phase.Done) × (after (suc n) .reader .mark ≡ true)
+      rest-again = (ap (λ (r : Reader). r .phase) rest-reader ∙ done, ap (λ (r : Reader). r .mark) rest-reader ∙ told-once)
+
       rest-stack : after (suc n) .stack ≡ after n .stack
       unfolding run call written ended told
       rest-stack = ap (λ (s : Step). written (after n .stack) (after n .reader .depth .0) (s .answer)) rests
@@ -232,10 +235,10 @@ module _ (doc stack : List ℕ) (c : Config) (short : length doc ≤ longest) wh
       onward x =
           let d : after (k + n) .reader .phase ≡ Phase.Done = ap (λ (r : Reader). r .phase) (x .reader) ∙ done in
           let m : after (k + n) .reader .mark ≡ true = ap (λ (r : Reader). r .mark) (x .reader) ∙ on in
-          let e : after (suc (k + n)) .reader ≡ after n .reader = rest-reader (k + n) d m ∙ x .reader in
+          let again = rest-again (k + n) d m in
           record {
-            says = rest-says (suc (k + n)) (ap (λ (r : Reader). r .phase) e ∙ done) (ap (λ (r : Reader). r .mark) e ∙ on);
-            reader = e;
+            says = rest-says (suc (k + n)) (again .0) (again .1);
+            reader = rest-reader (k + n) d m ∙ x .reader;
             stack = rest-stack (k + n) d m ∙ x .stack;
           }
 
@@ -260,6 +263,5 @@ module _ (doc stack : List ℕ) (c : Config) (short : length doc ≤ longest) wh
   after-eof (suc n) e =
       pick-cases (λ (b : Bool). b ≡ true → (after (suc n) .reader .phase ≡ Phase.Done) × (after (suc n) .reader .mark ≡ true)) (isEof (said doc (after n))) true (oneIs isEof (after n .answers))
       (λ e _. eof-done n e)
-      (λ _ e. let d = after-eof n e in let same = rest-reader n (d .0) (d .1) in
-      (ap (λ (r : Reader). r .phase) same ∙ d .0, ap (λ (r : Reader). r .mark) same ∙ d .1))
+      (λ _ e. let d = after-eof n e in rest-again n (d .0) (d .1))
       e

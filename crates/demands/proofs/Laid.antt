@@ -31,7 +31,7 @@ use Rattle.demands.specs.Answers.{isEof, isUnclosed, isEnding, count, on
 use Rattle.demands.specs.Calls.{Promise, Advances, Calls}
 use Rattle.demands.specs.Laid.{What, Laid, laid, gap, skippedBefore, layout, pieces, Chained, AmongParts, isPiece, hasByte, SetOnce}
 use Rattle.demands.proofs.Clauses.{setting}
-use Rattle.demands.proofs.Demand1.{turn, no-init-after-a-call, rest-reader, done-and-marked-stays, after-eof}
+use Rattle.demands.proofs.Demand1.{turn, no-init-after-a-call, rest-reader, rest-again, done-and-marked-stays, after-eof}
 use Rattle.demands.proofs.Joined.{what-holds-of-a-run-holds-of-calls}
 use Rattle.demands.proofs.Layouts.{chained-append, in-order, chained-gap, not-behind, none-behind, once-within, among-append, among-gap, pieces-laid, times-in-pieces, count-reverse}
 use Rattle.demands.proofs.Unclosed.{marks-when-told}
@@ -235,11 +235,11 @@ module _ (doc stack : List ℕ) (c : Config) (short : length doc ≤ longest) wh
       record { done = done-then n on; marked = marked-then n on; position = turn doc stack c short n .left ∙ ap (λ (x : Answer). valuesOf x .piece .to) same }
   ended (suc n) (b ∷ later) before a e ending =
       let x = ended n later before a (cc) ending in
-      let stays = rest-reader doc stack c short n (x .done) (x .marked) in
+      let again = rest-again doc stack c short n (x .done) (x .marked) in
       record {
-        done = ap (λ (r : Reader). r .phase) stays ∙ x .done;
-        marked = ap (λ (r : Reader). r .mark) stays ∙ x .marked;
-        position = ap (λ (r : Reader). r .position .0) stays ∙ x .position;
+        done = again .0;
+        marked = again .1;
+        position = ap (λ (r : Reader). r .position .0) (rest-reader doc stack c short n (x .done) (x .marked)) ∙ x .position;
       }
 
   -- THEOREM: where one of the answers is a refusal that ended the run, the position is the end of its piece, and what lies behind it is left

@@ -75,6 +75,7 @@ module _ (doc stack : List ℕ) (c : Config) (short : length doc ≤ longest) wh
   the-mark-is-what-the-answers-say (suc n) =
       the-mark-after-a-call doc (after n .stack) (after n .reader) ∙ ap (pick (turnsOn (answer n)) true) (the-mark-is-what-the-answers-say n)
 
+  -- an answer that turns the mark on
   pub marks-when-told : (n : ℕ) → turnsOn (answer n) ≡ true → after (suc n) .reader .mark ≡ true
   unfolding run call
   marks-when-told n e = the-mark-after-a-call doc (after n .stack) (after n .reader) ∙ rw e refl
