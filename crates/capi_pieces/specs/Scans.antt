@@ -1,0 +1,31 @@
+-- THE PROMISE of the scans that a host links: the number that is answered, and every slot that was lent.
+use Prim.Native.Nat.{ℕ}
+use mathlib.Core.Path.{_≡_}
+use mathlib.Core.List.{List, _++_}
+use lib.ListN.{length, drop}
+use lib.Dec.{ltb}
+use Rattle.ground.specs.Choose.{pick}
+use Rattle.pieces.specs.declared.scan.Scan.{Scan}
+use Rattle.pieces.specs.Fed.{fed, toldNumber}
+use Rattle.capi_pieces.specs.declared.slots.Held.{Held}
+use Rattle.capi_pieces.specs.Numbers.{scanSlots, numbersOf, heldOf, begunOf}
+
+-- by cases on what is held
+module _ {A : Type 0} where
+  abbrev pub byHeld : Held → (Scan → A) → A → A
+  byHeld (Held.Scan scan) f a = f scan
+  byHeld Held.Nothing f a = a
+
+-- a scan's numbers in the first slots
+abbrev pub stored : Scan → List ℕ → List ℕ
+stored scan slots = numbersOf scan ++ drop scanSlots slots
+
+-- 0, and a fresh scan; 17 where there are too few slots or no scan has that number, and nothing is written then
+pub record Begun (state : ℕ) (slots : List ℕ) (number : ℕ) (slots' : List ℕ) : Type 0 where
+  pub said : number ≡ pick (ltb (length slots) scanSlots) 17 (byHeld (begunOf state) (λ scan. 0) 17)
+  pub kept : slots' ≡ pick (ltb (length slots) scanSlots) slots (byHeld (begunOf state) (λ scan. stored scan slots) slots)
+
+-- 0 or the number of the refusal, and the scan after the call; 17 where the slots hold no scan, and nothing is written then
+pub record Fed (piece slots : List ℕ) (number : ℕ) (slots' : List ℕ) : Type 0 where
+  pub said : number ≡ byHeld (heldOf slots) (λ scan. toldNumber (fed scan piece .told)) 17
+  pub kept : slots' ≡ byHeld (heldOf slots) (λ scan. stored (fed scan piece .scan) slots) slots

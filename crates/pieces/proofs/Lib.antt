@@ -1,0 +1,4 @@
+pub mod Machine
+pub mod Turns
+pub mod Tests
+pub mod Goes

@@ -1,0 +1,5 @@
+pub mod Kinds
+pub mod Reached
+pub mod Fed
+pub mod Ahead
+pub mod Pieces
