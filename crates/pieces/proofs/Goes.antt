@@ -9,7 +9,7 @@ use lib.ListN.{length}
 use lib.Dec.{leb}
 use mir.Val.{Fits}
 use mir.Syntax.{w64}
-use borrow.Author.Tests.{leb-true, lt-ltb, le-ltb}
+use borrow.Author.Tests.{leb-true, le-ltb}
 use Rattle.ground.proofs.Choices.{choices, both}
 use Rattle.parser.specs.Machine.{Scan as Course, found, going, feed, scanAt}
 use Rattle.state.specs.Limits.{longest}
@@ -24,6 +24,7 @@ use Rattle.pieces.specs.Kinds.{pieceStep}
 use Rattle.pieces.specs.Reached.{reached, stateReached}
 use Rattle.pieces.specs.Fed.{answerOf, fed, fedOn, refused}
 use Rattle.pieces.proofs.Machine.{feed-bound, feed-moved, moved}
+use Rattle.pieces.proofs.Calls.{fed-closed, fed-bad-place, fed-bad-state, fed-long, fed-on}
 
 -- the course is what the answer says
 found-ahead : (c : Course State) (p : ℕ) → aheadOf c ≡ Ahead.At p → c ≡ found p
@@ -64,29 +65,27 @@ reached-most taken state e = leb-true taken longest (both (leb taken longest) (s
 
 -- a law for each way through it, from the case that the code's own match has said
 module _ (scan : Scan) (piece : List ℕ) where
+  case : (x : Fed) (s : Scan) → scan ≡ s → fed s piece ≡ x → x ≡ fed scan piece
+  case x s e f = sym (ap (λ (s : Scan). fed s piece) e ∙ f)
+
   module _ (place : ℕ) (e : scan ≡ Scan.Closed place) where
     pub feed-at : place < longest → record { scan = Scan.Closed place; told = Told.At place } ≡ fed scan piece
-    unfolding fed
-    feed-at h = rw (e, lt-ltb place longest h)
+    feed-at h = case _ (Scan.Closed place) e (fed-closed place piece h)
 
     pub feed-bad-place : (x : Fed) → x ≡ refused (Scan.Closed place) Error.BadState → longest ≤ place → x ≡ fed scan piece
-    unfolding fed
-    feed-bad-place x f h = rw (e, le-ltb place longest h) f
+    feed-bad-place x f h = f ∙ case _ (Scan.Closed place) e (fed-bad-place place piece (le-ltb place longest h))
 
   module _ (taken : ℕ) (state : State) (e : scan ≡ Scan.Open taken state) (x : Fed) (r : Bool) (q : r ≡ reached taken state) where
     pub feed-bad-state : x ≡ refused (Scan.Open taken state) Error.BadState → r ≡ false → x ≡ fed scan piece
-    unfolding fed
-    feed-bad-state f n = rw (e, sym q ∙ n) f
+    feed-bad-state f n = f ∙ case _ (Scan.Open taken state) e (fed-bad-state taken state piece (sym q ∙ n))
 
     pub feed-long : x ≡ refused (Scan.Open taken state) Error.SliceTooLong → r ≡ true → longest - taken < length piece → x ≡ fed scan piece
-    unfolding fed
-    feed-long f y h = rw (e, sym q ∙ y, lt-ltb longest (taken + length piece) (omega arith)) f
+    feed-long f y h = f ∙ case _ (Scan.Open taken state) e (fed-long taken state piece (sym q ∙ y) (omega arith))
 
     pub feed-on : x ≡ fedOn taken state piece → r ≡ true → length piece ≤ longest - taken → x ≡ fed scan piece
-    unfolding fed
     feed-on f y h =
         let m = reached-most taken state (sym q ∙ y) in
-        rw (e, sym q ∙ y, le-ltb longest (taken + length piece) (omega arith)) f
+        f ∙ case _ (Scan.Open taken state) e (fed-on taken state piece (sym q ∙ y) (omega arith))
 
 -- what the code asks on the way
 module _ (taken : ℕ) (state : State) (r : Bool) (q : r ≡ reached taken state) (y : r ≡ true) where

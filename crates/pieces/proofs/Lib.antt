@@ -1,4 +1,11 @@
 pub mod Machine
 pub mod Turns
 pub mod Tests
+pub mod Calls
 pub mod Goes
+pub mod Kept
+pub mod Cutting
+pub mod Whole
+pub mod Reaching
+pub mod Theorems
+pub mod Worked

@@ -3,3 +3,4 @@ pub mod Reached
 pub mod Fed
 pub mod Ahead
 pub mod Pieces
+pub mod Table
