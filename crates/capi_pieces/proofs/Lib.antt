@@ -1,1 +1,3 @@
 pub mod Answers
+pub mod Held
+pub mod Hosts

@@ -85,7 +85,7 @@ two-pieces (Scan.Open n s) p q h =
 -- ---- any number of pieces
 
 -- what is left fits
-fits-rest : (scan : Scan) (p q : List ℕ) → Fits scan (p ++ q) → Fits (fed scan p .scan) q
+pub fits-rest : (scan : Scan) (p q : List ℕ) → Fits scan (p ++ q) → Fits (fed scan p .scan) q
 fits-rest (Scan.Closed k) p q h =
     by-test (ltb k longest)
     (λ e. subst (λ (x : Fed). Fits (x .scan) q) (sym (fed-closed k p (ltb-true k longest e))) tt)
