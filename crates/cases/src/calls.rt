@@ -1,4 +1,5 @@
-// The cases of the reader, of the column reader and of a tag's attributes: the calls that a line makes.
+// The cases of the reader, of the column reader and of a tag's attributes: the calls that a line makes. Those of scans that are fed stand in `feeds.rt`.
+use crate::feeds::feed_case;
 use crate::says::say_column;
 use crate::says::say_item;
 use crate::says::say_names;
@@ -44,12 +45,13 @@ const PHASES: usize = 6;
 pub fn answer(text: &[u8]) {
     let end = word(text, 0);
     let form = ground::part(text, 0, end);
-    match number_of(form, b"run;state;content;column;attributes") {
+    match number_of(form, b"run;state;content;column;attributes;feed") {
         0 => run_case(text, end),
         1 => state_case(text, end),
         2 => content_case(text, end),
         3 => column_case(text, end),
         4 => attributes_case(text, end),
+        5 => feed_case(text, end),
         _ => {}
     }
 }
