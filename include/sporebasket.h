@@ -1,6 +1,7 @@
-/* Sporebasket: a verified reader of XML events, of attributes, of references, and of columns of times. Link libsporebasket.a, which `tools/host-staticlib capi` makes.
+/* Sporebasket: a verified reader of XML events, of attributes, of references, and of columns of times, and scans of input that comes in pieces. Link libsporebasket.a, which
+ * `tools/host-staticlib capi` makes.
  *
- * The host lends all memory: the document, a stack for the open names, the state of a reader, a buffer, a column and room for an answer. Nothing is kept between
+ * The host lends all memory: the document, a stack for the open names, the state of a reader or of a scan, a buffer, a column and room for an answer. Nothing is kept between
  * calls but what stands there, so each thread may have a reader of its own, over one document too. Every function but
  * sporebasket_default_settings answers 0 or the number of a refusal, and asks nothing of the numbers that it is lent: whatever they are, the
  * answer is the one that docs/PROMISES.md states. It asks of C what C cannot be asked to check: a pointer is to as many bytes or slots as its
@@ -141,6 +142,34 @@ enum {
     SPOREBASKET_COLUMN_SLOTS
 };
 
+/* The slots of a scan, and its states. While a scan is open COUNT is how many bytes it has taken; in CLOSED it is the place of the byte that was found, counted from the first byte of the first
+ * piece. LEFT is how many bytes of the opener `<!--` of a comment are yet to pass. SEEN is how many of the marks that have to stand right before the `>` were the last bytes taken: a `?` in PI, up to
+ * two `-` in COMMENT, up to two `]` in CDATA. LEFT and SEEN are 0 in all other states.
+ *
+ * In PIECE nothing has come, and the first byte is to tell what it is: `<` leads to OPENED, `&` to REFERENCE, any other byte to TEXT. In OPENED `!` leads to BANG, `?` to PI, and any other byte belongs to
+ * a TAG; in BANG `[` leads to CDATA and `-` to COMMENT, and any other byte is found itself, since a reader refuses there at once (8 or 14). */
+enum {
+    SPOREBASKET_SCAN_STATE,
+    SPOREBASKET_SCAN_COUNT,
+    SPOREBASKET_SCAN_LEFT,
+    SPOREBASKET_SCAN_SEEN,
+    SPOREBASKET_SCAN_SLOTS
+};
+enum {
+    SPOREBASKET_SCAN_CLOSED,
+    SPOREBASKET_SCAN_PIECE,
+    SPOREBASKET_SCAN_OPENED,
+    SPOREBASKET_SCAN_BANG,
+    SPOREBASKET_SCAN_TAG,
+    SPOREBASKET_SCAN_SINGLE_QUOTED,
+    SPOREBASKET_SCAN_DOUBLE_QUOTED,
+    SPOREBASKET_SCAN_PI,
+    SPOREBASKET_SCAN_COMMENT,
+    SPOREBASKET_SCAN_CDATA,
+    SPOREBASKET_SCAN_REFERENCE,
+    SPOREBASKET_SCAN_TEXT
+};
+
 /* The refusals. 18 is given where end of file is due, CHECK_OPEN_NAMES is on, a name is open and the MARK is off. So it comes once, instead of the first end of
  * file, and not after a refusal that ended the run (1 to 8, 13 to 15). Its piece is that of the end of file, and it takes no name away; end of file follows.
  * 19 to 24 are of the two functions for attributes, 25 to 27 of the two for references, 30 and 31 of sporebasket_column alone. */
@@ -273,6 +302,34 @@ size_t sporebasket_unescape(const uint8_t *content, size_t length, uint8_t *buff
  * a fifth of the document's bytes, since a time has five. */
 size_t sporebasket_column(const uint8_t *document, size_t length, size_t *stack, size_t stack_slots, size_t *column, size_t column_slots,
                           size_t *answer, size_t answer_slots);
+
+/* Makes a scan that has taken nothing, in the first SPOREBASKET_SCAN_SLOTS slots of `scan`: the state is PIECE, TAG, PI, COMMENT, CDATA or TEXT, LEFT is 4 for a COMMENT, and the others are 0.
+ * 17: any other state, or fewer slots. Then nothing is written. */
+size_t sporebasket_scan(size_t state, size_t *scan, size_t scan_slots);
+
+/* Goes on with a scan over the next piece of what it looks through, and writes the scan. The first piece of a tag, a processing instruction, a comment or a CDATA section begins at its `<`, that of a PIECE
+ * with the first byte of whatever comes; a piece may end anywhere, and be empty. 0: the piece was taken. If the scan is now CLOSED, COUNT is the place of the byte found, and what stands behind it in the
+ * piece was not looked at; else it has to be fed on. After that pieces of any length change nothing, and are answered by 0. For any cutting of the same bytes into pieces, empty ones included, answer, place and
+ * slots at the end are those for the bytes in one piece. What is found:
+ * - TAG: the first `>` outside quotes.
+ * - PI: the first `>` with a `?` right before it; of `<?>` it is the `>`.
+ * - COMMENT: the first `>` with `--` right before it, none of which belongs to the opener: `<!-->` and `<!--->` are not closed by it.
+ * - CDATA: the first `>` with `]]` right before it.
+ * - TEXT: the first `<` or `&`, which does not belong to the text.
+ * - REFERENCE: the first of `;`, `&` and `<` behind its `&`; the last two do not belong to it.
+ * From PIECE on the scan finds out by itself which of these it is, as stands above, and is CLOSED by the byte that a call of sporebasket_read_event goes by to end its piece, or to refuse it. So a host that
+ * gets a document by and by makes a call, over the bytes that have come and with LENGTH set to how many these are, as soon as a scan of a PIECE is CLOSED that began at POSITION: behind a byte order mark there
+ * in INIT (while less than the mark has come, and is its start, it waits), and behind white space that SPOREBASKET_TRIM_TEXT_START skips. In INSIDE_EMPTY and DONE a call needs no byte, and where no more bytes
+ * come all calls are made. They are answered as over the whole document. `hosts/c/chunks.c` is a whole program that does so.
+ * 17, before all else, with the scan left as it was, exactly where one of these is so:
+ * - There are fewer than SPOREBASKET_SCAN_SLOTS slots, or STATE is none of those above.
+ * - COUNT is more than SPOREBASKET_LONGEST, or, in CLOSED, as much.
+ * - COUNT does not fit the state: it is not 0 in PIECE, not 1 in OPENED, not 2 in BANG, or 0 in SINGLE_QUOTED, DOUBLE_QUOTED or REFERENCE.
+ * - LEFT and SEEN do not fit: with LEFT 0, SEEN is more than 1 in PI, 2 in COMMENT and CDATA or 0 elsewhere, or the bytes of the opener that count (4 in COMMENT, else 0) and SEEN are together more than
+ *   COUNT; or LEFT is not 0, and the state is not COMMENT, SEEN is not 0, or COUNT and LEFT are together not 4.
+ * So it never comes to who keeps a scan as it was left. 16, with the scan left as it was: it is open, and COUNT and `length` are together more than SPOREBASKET_LONGEST, even if the byte would be found
+ * before that. */
+size_t sporebasket_feed(const uint8_t *piece, size_t length, size_t *scan, size_t scan_slots);
 
 #ifdef __cplusplus
 }

@@ -1,6 +1,6 @@
 //! Compares Sporebasket with quick-xml 0.42.0, call by call, its column reader with an account over quick-xml's events, its reading of attributes and of
-//! references as characters with quick-xml's own, and what one program is told by quick-xml and by the Rust package in its place. See `tools/compare` and
-//! `tools/record`.
+//! references as characters with quick-xml's own, its scans fed in pieces with quick-xml's parsers, and what one program is told by quick-xml and by the Rust package in
+//! its place. See `tools/compare` and `tools/record`.
 
 #![forbid(unsafe_code)]
 
@@ -14,9 +14,9 @@ mod inputs;
 mod layout;
 mod listed;
 mod ours;
+mod pieces;
 mod record;
 mod run;
-mod scanners;
 mod settings;
 mod shrink;
 mod summary;
@@ -29,7 +29,7 @@ use std::path::PathBuf;
 use std::process::ExitCode;
 
 const USAGE: &str =
-    "usage: compare [--reader | --columns | --attributes | --escape | --swap] [--quick | --faults | --first | --record FOLDER] \
+    "usage: compare [--reader | --columns | --attributes | --escape | --pieces | --swap] [--quick | --faults | --first | --record FOLDER] \
                      [--seed N] [FILE..]";
 
 /// What is compared.
@@ -40,6 +40,7 @@ enum Part {
     Columns,
     Attributes,
     Escape,
+    Pieces,
     Swap,
 }
 
@@ -75,6 +76,7 @@ fn wish() -> Option<Wish> {
             "--columns" => wish.part = Part::Columns,
             "--attributes" => wish.part = Part::Attributes,
             "--escape" => wish.part = Part::Escape,
+            "--pieces" => wish.part = Part::Pieces,
             "--swap" => wish.part = Part::Swap,
             "--tags" => wish.tags = true,
             "--faults" => wish.faults = true,
@@ -93,8 +95,7 @@ fn main() -> ExitCode {
         return ExitCode::from(2);
     };
     if wish.tags {
-        let scanners = scanners::ROWS.iter().map(|row| &row.tag);
-        listed::TAGS.iter().chain(scanners).chain(&attributes::TAGS).chain(&escape::TAGS).for_each(|tag| println!("{tag}"));
+        listed::TAGS.iter().chain(&attributes::TAGS).chain(&escape::TAGS).chain(&pieces::TAGS).for_each(|tag| println!("{tag}"));
         return ExitCode::SUCCESS;
     }
     if wish.faults {
@@ -102,7 +103,8 @@ fn main() -> ExitCode {
         let columns = !wish.part.has(Part::Columns) || columns::faults(wish.seed);
         let attributes = !wish.part.has(Part::Attributes) || attributes::faults(wish.seed);
         let escape = !wish.part.has(Part::Escape) || escape::faults(wish.seed);
-        return ExitCode::from(!(readers && columns && attributes && escape) as u8);
+        let pieces = !wish.part.has(Part::Pieces) || pieces::faults(wish.seed);
+        return ExitCode::from(!(readers && columns && attributes && escape && pieces) as u8);
     }
     if wish.first {
         return ExitCode::from(swap::notice(wish.seed) as u8);
@@ -124,7 +126,7 @@ fn main() -> ExitCode {
     compare(wish)
 }
 
-/// The reader, the column reader, attributes, references and the program over both, or one of these alone.
+/// The reader, the column reader, attributes, references, pieces and the program over both, or one of these alone.
 fn compare(wish: Wish) -> ExitCode {
     if let Some(file) = wish.files.iter().find(|file| !file.is_file() || std::fs::File::open(file).is_err()) {
         eprintln!("compare: cannot read {}", file.display());
@@ -134,17 +136,13 @@ fn compare(wish: Wish) -> ExitCode {
         println!("compare: the default settings differ, or what the functions make of settings");
         return ExitCode::FAILURE;
     }
-    let refuted = scanners::refuted();
-    if !refuted.is_empty() {
-        println!("compare: the crate's scanners do not do what is listed: {refuted:?}");
-        return ExitCode::FAILURE;
-    }
     let alike = !wish.part.has(Part::Reader) || readers(&wish);
     let columns = !wish.part.has(Part::Columns) || columns::compare(wish.amount, wish.seed, wish.files.clone());
     let attributes = !wish.part.has(Part::Attributes) || attributes::compare(wish.amount, wish.seed, wish.files.clone());
     let escape = !wish.part.has(Part::Escape) || escape::compare(wish.amount, wish.seed, wish.files.clone());
+    let pieces = !wish.part.has(Part::Pieces) || pieces::compare(wish.amount, wish.seed, wish.files.clone());
     let swap = !wish.part.has(Part::Swap) || swap::compare(wish.amount, wish.seed, wish.files);
-    ExitCode::from(!(alike && columns && attributes && escape && swap) as u8)
+    ExitCode::from(!(alike && columns && attributes && escape && pieces && swap) as u8)
 }
 
 /// Runs every input, or those of the files, call by call: true if nothing differs but what is listed and everything was seen that should be.

@@ -45,8 +45,6 @@ struct layout {
     size_t numbers[2];
 };
 
-static const uint8_t mark[] = {0xEF, 0xBB, 0xBF};
-
 /* Keeps what is wrong. */
 static int wrong(struct layout *layout, const char *fault, size_t first, size_t second)
 {

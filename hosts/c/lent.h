@@ -15,6 +15,9 @@ struct lent {
     size_t answer[SPOREBASKET_ANSWER_SLOTS];
 };
 
+/* The byte order mark. */
+static const uint8_t mark[] = {0xEF, 0xBB, 0xBF};
+
 /* Makes a stack that is full twice as long, if more names may be open, and one that is not there yet: a pointer that is lent is not null. A call opens
  * one name at most, so one that has room for it answers as if all room were there. 0 if there is no memory. */
 static int make_room(struct lent *lent)

@@ -1,12 +1,11 @@
 //! What attributes cost: one call, one looked up, and all of a tag, by how many there are.
 
-use crate::clock::{least, ratio};
+use crate::clock::{least, ratio, timed};
 use quick_xml::events::attributes::Attributes as Theirs;
 use sporebasket::events::attributes::Attributes as Ours;
 use sporebasket::lent;
 use std::fmt::Write;
 use std::hint::black_box;
-use std::time::Instant;
 
 /// How many attributes a tag has, each twice as many as the one before it from the third on.
 const COUNTS: [usize; 11] = [1, 3, 6, 12, 25, 50, 100, 200, 400, 800, 1600];
@@ -41,16 +40,9 @@ fn tag(count: usize) -> Tag {
 
 /// The nanoseconds that a run takes, of each sample.
 fn samples(mut run: impl FnMut() -> usize) -> Vec<f64> {
-    let mut time = |repeats: u32| {
-        let began = Instant::now();
-        for _ in 0..repeats {
-            black_box(run());
-        }
-        began.elapsed().as_nanos() as f64 / f64::from(repeats)
-    };
-    time(1);
-    let repeats = (SAMPLE / time(1)).ceil() as u32;
-    (0..SAMPLES).map(|_| time(repeats)).collect()
+    timed(1, &mut run);
+    let repeats = (SAMPLE / timed(1, &mut run)).ceil() as u32;
+    (0..SAMPLES).map(|_| timed(repeats, &mut run)).collect()
 }
 
 pub fn run() -> Result<(), String> {

@@ -17,19 +17,13 @@ const SAMPLE: f64 = 100_000.0;
 /// The nanoseconds that a run took, of each round.
 pub type Samples = Vec<f64>;
 
-/// Reads the row so many times, and answers the nanoseconds that one time took.
-pub fn time(runner: &mut dyn Runner, row: &Row, repeats: u32) -> f64 {
+/// Runs something so many times, and answers the nanoseconds that one time took.
+pub fn timed<T>(repeats: u32, mut run: impl FnMut() -> T) -> f64 {
     let began = Instant::now();
     for _ in 0..repeats {
-        black_box(runner.run(black_box(&row.document), black_box(row.settings)));
+        black_box(run());
     }
     began.elapsed().as_nanos() as f64 / f64::from(repeats)
-}
-
-/// How many times a row is read in a sample.
-fn repeats(runner: &mut dyn Runner, row: &Row) -> u32 {
-    time(runner, row, 1);
-    (SAMPLE / time(runner, row, 1)).ceil() as u32
 }
 
 /// Whether the runner takes the row's settings.
@@ -39,17 +33,31 @@ fn takes(runner: &dyn Runner, row: &Row) -> bool {
 
 /// The samples of each row and runner; none where the runner does not take the row's settings.
 pub fn rounds(rows: &[Row], runners: &mut [Box<dyn Runner>], rounds: usize) -> Vec<Vec<Samples>> {
-    let repeats: Vec<Vec<Option<u32>>> = rows
-        .iter()
-        .map(|row| runners.iter_mut().map(|runner| takes(&**runner, row).then(|| repeats(&mut **runner, row))).collect())
-        .collect();
-    let mut samples = vec![vec![Samples::new(); runners.len()]; rows.len()];
+    let taken: Vec<Vec<bool>> = rows.iter().map(|row| runners.iter().map(|runner| takes(&**runner, row)).collect()).collect();
+    turns(&taken, SAMPLE, rounds, |row, column, repeats| {
+        let (row, runner) = (&rows[row], &mut runners[column]);
+        timed(repeats, || runner.run(black_box(&row.document), black_box(row.settings)))
+    })
+}
+
+/// The samples of each row and column, none where the column does not take the row. A sample takes so many nanoseconds at least; the last argument runs a row by a column so many
+/// times, and answers the nanoseconds of one.
+pub fn turns(taken: &[Vec<bool>], sample: f64, rounds: usize, mut time: impl FnMut(usize, usize, u32) -> f64) -> Vec<Vec<Samples>> {
+    let mut repeats = |row, column| {
+        time(row, column, 1);
+        (sample / time(row, column, 1)).ceil() as u32
+    };
+    let mut all = |row: usize, taken: &Vec<bool>| -> Vec<Option<u32>> {
+        (0..taken.len()).map(|column| taken[column].then(|| repeats(row, column))).collect()
+    };
+    let repeats: Vec<Vec<Option<u32>>> = taken.iter().enumerate().map(|(row, taken)| all(row, taken)).collect();
+    let mut samples: Vec<Vec<Samples>> = taken.iter().map(|taken| vec![Samples::new(); taken.len()]).collect();
     for round in 0..rounds {
-        for (row, at) in rows.iter().zip(0..) {
-            for turn in 0..runners.len() {
-                let column = (round + turn) % runners.len();
-                if let Some(repeats) = repeats[at][column] {
-                    samples[at][column].push(time(&mut *runners[column], row, repeats));
+        for (row, repeats) in repeats.iter().enumerate() {
+            for turn in 0..repeats.len() {
+                let column = (round + turn) % repeats.len();
+                if let Some(repeats) = repeats[column] {
+                    samples[row][column].push(time(row, column, repeats));
                 }
             }
         }
@@ -66,4 +74,12 @@ pub fn ratio(samples: &[f64], to: &[f64]) -> f64 {
     let mut ratios: Vec<f64> = samples.iter().zip(to).map(|(sample, to)| sample / to).collect();
     ratios.sort_by(f64::total_cmp);
     ratios[ratios.len() / 2]
+}
+
+/// Both ratios, of the least times and by the rounds; a hyphen where nothing was measured.
+pub fn ratios(samples: &[f64], to: &[f64]) -> String {
+    if samples.is_empty() {
+        return "-".into();
+    }
+    format!("{:.2} / {:.2}", least(samples) / least(to), ratio(samples, to))
 }

@@ -1,7 +1,7 @@
 //! What replacing references costs: beside the crate, by how many there are, and by the byte as the text grows.
 
 use self::Shape::{Prose, Run, Value};
-use crate::clock::{least, ratio, Samples};
+use crate::clock::{least, ratios, timed, turns, Samples};
 use crate::grid::{self, grouped, joined};
 use crate::inputs::draw::Draw;
 use crate::inputs::words::prose;
@@ -9,7 +9,6 @@ use quick_xml::escape::unescape as theirs;
 use sporebasket::escape::unescape as package;
 use sporebasket::lent;
 use std::hint::black_box;
-use std::time::Instant;
 
 /// The length of a text in the first table, and the lengths in the second.
 const LENGTH: usize = 65_536;
@@ -129,34 +128,12 @@ impl Lent {
             _ => black_box(package(black_box(&self.text))).map_or(0, |text| text.len()),
         }
     }
-
-    /// The nanoseconds that a call takes.
-    fn time(&mut self, column: usize, repeats: u32) -> f64 {
-        let began = Instant::now();
-        for _ in 0..repeats {
-            black_box(self.call(column));
-        }
-        began.elapsed().as_nanos() as f64 / f64::from(repeats)
-    }
 }
 
-/// The samples of each text and column: in each round every column runs on every text, and the next round begins with the next column.
-fn rounds(texts: &mut [Lent]) -> Vec<[Samples; COLUMNS.len()]> {
-    let repeats = |text: &mut Lent, column| {
-        text.time(column, 1);
-        (SAMPLE / text.time(column, 1)).ceil() as u32
-    };
-    let repeats: Vec<_> = texts.iter_mut().map(|text| [0, 1, 2].map(|column| repeats(text, column))).collect();
-    let mut samples = vec![[(); COLUMNS.len()].map(|()| Samples::new()); texts.len()];
-    for round in 0..ROUNDS {
-        for (at, text) in texts.iter_mut().enumerate() {
-            for turn in 0..COLUMNS.len() {
-                let column = (round + turn) % COLUMNS.len();
-                samples[at][column].push(text.time(column, repeats[at][column]));
-            }
-        }
-    }
-    samples
+/// The samples of each text and column.
+fn rounds(texts: &mut [Lent]) -> Vec<Vec<Samples>> {
+    let taken = vec![vec![true; COLUMNS.len()]; texts.len()];
+    turns(&taken, SAMPLE, ROUNDS, |text, column, repeats| timed(repeats, || texts[text].call(column)))
 }
 
 pub fn run() -> Result<(), String> {
@@ -173,11 +150,12 @@ fn table() -> Result<(), String> {
     let texts: Result<Vec<_>, _> = TABLE.iter().map(|(name, shape)| Lent::new(name, shape, 0, LENGTH)).collect();
     let mut texts = texts?;
     let samples = rounds(&mut texts);
-    let lines = TABLE.iter().zip(&texts).zip(&samples).map(|(((name, _), lent), [theirs, others @ ..])| {
+    let lines = TABLE.iter().zip(&texts).zip(&samples).map(|(((name, _), lent), samples)| {
+        let (theirs, others) = (&samples[0], &samples[1..]);
         let references = lent.text.matches('&').count();
         let time = format!("{:.3}", least(theirs) / 1000.0);
         let mut line = vec![name.to_string(), grouped(lent.text.len()), grouped(references), time];
-        line.extend(others.iter().map(|other| format!("{:.2} / {:.2}", least(other) / least(theirs), ratio(other, theirs))));
+        line.extend(others.iter().map(|other| ratios(other, theirs)));
         line
     });
     grid::print(&["text", "bytes", "references", "quick-xml µs", COLUMNS[1], COLUMNS[2]], &lines.collect::<Vec<_>>());

@@ -12,6 +12,7 @@ mod inputs;
 mod large;
 mod machine;
 mod memory;
+mod pieces;
 mod runners;
 mod table;
 mod worst;
@@ -25,7 +26,7 @@ use std::process::ExitCode;
 use std::{env, fs};
 
 const USAGE: &str = "\
-usage: speed [--quick | --rounds N] [--trim] [--beside NAME=PATH] [--also NAME=PATH].. | (--growth | --large) [--also NAME=PATH].. | --attributes | --escape | --describe | --write FOLDER";
+usage: speed [--quick | --rounds N] [--trim] [--beside NAME=PATH] [--also NAME=PATH].. | (--growth | --large) [--also NAME=PATH].. | --attributes | --escape | --pieces [--quick | --rounds N] | --describe | --write FOLDER";
 
 /// How many rounds there are: enough for the times to settle, and for a look.
 const ROUNDS: usize = 1000;
@@ -37,6 +38,7 @@ enum Wish {
     Large { also: Vec<Build> },
     Attributes,
     Escape,
+    Pieces { rounds: Option<usize> },
     Describe,
     Write(PathBuf),
 }
@@ -52,7 +54,8 @@ fn build(argument: &str) -> Option<Build> {
 }
 
 fn wish() -> Option<Wish> {
-    let (mut trim, mut rounds, mut growth, mut large, mut beside, mut also) = (false, None, false, false, None, Vec::new());
+    let (mut trim, mut rounds, mut growth, mut large, mut pieces, mut beside, mut also) =
+        (false, None, false, false, false, None, Vec::new());
     let mut arguments = env::args().skip(1);
     while let Some(argument) = arguments.next() {
         match argument.as_str() {
@@ -60,6 +63,7 @@ fn wish() -> Option<Wish> {
             "--rounds" => rounds = Some(arguments.next()?.parse().ok().filter(|&rounds| rounds > 0)?),
             "--growth" => growth = true,
             "--large" => large = true,
+            "--pieces" => pieces = true,
             "--trim" => trim = true,
             "--beside" if beside.is_none() => beside = Some(build(&arguments.next()?)?),
             "--also" => also.push(build(&arguments.next()?)?),
@@ -69,6 +73,9 @@ fn wish() -> Option<Wish> {
             "--write" => return Some(Wish::Write(arguments.next()?.into())),
             _ => return None,
         }
+    }
+    if pieces {
+        return (!growth && !large && !trim && beside.is_none() && also.is_empty()).then_some(Wish::Pieces { rounds });
     }
     if growth || large {
         let wish = if growth { Wish::Growth { also } } else { Wish::Large { also } };
@@ -93,6 +100,10 @@ fn main() -> ExitCode {
         Wish::Escape => {
             machine::print();
             escape::run()
+        }
+        Wish::Pieces { rounds } => {
+            machine::print();
+            pieces::run(rounds)
         }
         Wish::Describe => {
             inputs::describe();

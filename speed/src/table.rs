@@ -1,7 +1,7 @@
 //! The table: every column beside the first one, on the inputs asked for.
 
 use crate::check::told;
-use crate::clock::{least, ratio, rounds, Row, Samples};
+use crate::clock::{least, ratios, rounds, Row, Samples};
 use crate::grid::{self, grouped};
 use crate::inputs;
 use crate::runners::{Runner, Settings, Tally};
@@ -54,13 +54,6 @@ fn line(row: &Row, tally: Tally, samples: &[Samples]) -> Vec<String> {
         format!("{:.1}", time / tally.answers as f64),
         format!("{:.3}", time / row.document.len() as f64),
     ];
-    cells.extend(samples[1..].iter().map(|other| ratios(&samples[0], other)));
+    cells.extend(samples[1..].iter().map(|other| ratios(other, &samples[0])));
     cells
-}
-
-fn ratios(first: &[f64], other: &[f64]) -> String {
-    if other.is_empty() {
-        return "-".into();
-    }
-    format!("{:.2} / {:.2}", least(other) / least(first), ratio(other, first))
 }

@@ -141,7 +141,7 @@ impl Bench {
         let words = format!(
             "{} |{}|, a buffer of {length} bytes from {at}, {slots} slots",
             if whole { "unescape" } else { "reference" },
-            shrink::shown(content)
+            contents::shown(content)
         );
         let bytes = |of: &[u8]| of[buffer.clone()].to_vec();
         self.asked = Some(Asked { words, ours: (returned, our_answer, bytes(ours)), wanted: (number, answer, bytes(wanted)) });

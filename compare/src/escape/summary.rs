@@ -121,7 +121,8 @@ impl Tally {
         }
         println!("escape: listed differences, of contents and of single references:");
         for (row, tag) in TAGS.iter().enumerate() {
-            let shortest = self.shortest[row].as_ref().map_or(String::new(), |content| format!(", first at |{}|", shrink::shown(content)));
+            let shortest =
+                self.shortest[row].as_ref().map_or(String::new(), |content| format!(", first at |{}|", contents::shown(content)));
             println!("  {:>14} {:>14}  {tag}{shortest}", self.listed[0][row], self.listed[1][row]);
         }
         println!("  {:>14}  of the contents are taken by the crate, to their end", self.taken);

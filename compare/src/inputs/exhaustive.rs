@@ -18,6 +18,13 @@ pub fn bytes(name: &'static str, prefix: &'static [u8], letters: &[u8], most: (u
     Alphabet { name, prefix, parts, most, settings: combinations(bits), slots: vec![16] }
 }
 
+impl Alphabet {
+    /// The same for other stacks.
+    pub fn with(self, slots: usize) -> Self {
+        Self { slots: vec![slots], ..self }
+    }
+}
+
 pub fn tokens(name: &'static str, tokens: &[&[u8]], most: (usize, usize), settings: Vec<u16>, slots: Vec<usize>) -> Alphabet {
     let parts = tokens.iter().map(|t| t.to_vec()).collect();
     Alphabet { name, prefix: b"", parts, most, settings, slots }

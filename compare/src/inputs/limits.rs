@@ -130,7 +130,7 @@ const ENDS: &[(&[u8], &[u8], &[u8])] = &[
 ];
 
 /// A document of exactly this length: the head, the part again and again, and the tail.
-fn made(head: &[u8], part: &[u8], tail: &[u8], length: usize) -> Vec<u8> {
+pub fn made(head: &[u8], part: &[u8], tail: &[u8], length: usize) -> Vec<u8> {
     let between = length.saturating_sub(head.len() + tail.len());
     [head, &part.repeat(between.div_ceil(part.len()))[..between], tail].concat()
 }

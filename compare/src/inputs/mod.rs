@@ -8,6 +8,7 @@ mod escape;
 mod exhaustive;
 mod files;
 mod limits;
+mod pieces;
 mod places;
 pub mod random;
 mod utf8;
@@ -164,6 +165,20 @@ pub fn escape(amount: Amount, seed: u64) -> Vec<Family> {
 /// Contents with references alone, which are the same on every machine.
 pub fn texts(seed: u64) -> Vec<Family> {
     escape::families(Amount::Quick, seed)
+}
+
+/// Those of scans fed in pieces: their own, and the markup, references and texts in documents of the others.
+pub fn pieces(amount: Amount, seed: u64) -> Vec<Family> {
+    let documents = random::families(Amount::Quick, seed).into_iter().chain(blocks::families(Amount::Quick));
+    let share = amount.of(401, 41);
+    let mut families = pieces::families(amount, seed);
+    families.extend(documents.map(|family| pieces::of_documents(thinned(family, share))));
+    families
+}
+
+/// The markup, references and texts in the files named.
+pub fn marks_of_files(paths: Vec<PathBuf>) -> Vec<Family> {
+    files::families(paths).into_iter().map(pieces::of_documents).collect()
 }
 
 /// The texts in the files named.

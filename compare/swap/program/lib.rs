@@ -17,6 +17,7 @@
 mod attributes;
 mod events;
 mod fixed;
+mod parsers;
 pub mod references;
 
 pub use fixed::write_fixed;
@@ -98,13 +99,14 @@ fn open(document: &[u8], settings: u16) -> Reader<&[u8]> {
     reader
 }
 
-/// Reads a document in three ways.
+/// Reads a document in three ways, and feeds it to the parsers of markup.
 pub fn write_document(document: &[u8], settings: u16, out: &mut String) {
     let mut page = Page(out);
     let reader = open(document, settings);
     plain(reader.clone(), &mut page);
     buffered(reader.clone(), &mut page);
     changing(reader, settings, &mut page);
+    parsers::write(document, &mut page);
 }
 
 fn place<R>(reader: &Reader<R>) -> (u64, u64) {

@@ -73,10 +73,11 @@ pub enum Refused {
     DocType,
     /// 15: a name more than there is room for. It ends the run.
     NameStackFull,
-    /// 16: the document has more bytes than [`LONGEST`]. Every call gives it.
+    /// 16: the document has more bytes than [`LONGEST`]. Every call of a reader over it gives it; a [`Feeder`](crate::feed::Feeder) and a [`Scan`](crate::feed::Scan) refuse the chunk with which it would
+    /// have more.
     SliceTooLong,
     /// 17: the numbers lent as a state cannot be read on from, or there are too few slots; [`lent::read_event`](crate::lent::read_event) has the rule. A
-    /// [`Reader`](crate::Reader) keeps its own state and never gives it.
+    /// [`Reader`](crate::Reader) keeps its own state and never gives it. A [`Feeder`](crate::feed::Feeder) refuses by it a chunk that comes after its end was told.
     BadState,
     /// 18: the document ends while names are open, of which this is the latest, where
     /// [`check_open_names`](crate::reader::Config::check_open_names) is on. Its place is the first byte of that name. They stay open:

@@ -193,7 +193,6 @@ impl<'a> Layout<'a> {
             self.follow(part)?;
             self.counts.add(part.clone());
         }
-        let is_white = |byte: &u8| matches!(byte, b' ' | b'\t' | b'\n' | b'\r');
         if let Some(at) = self.document[white.clone()].iter().position(|byte| !is_white(byte)) {
             return Err(LayoutError::NotWhite(white.start + at));
         }
@@ -334,7 +333,12 @@ impl fmt::Display for LayoutError {
 impl error::Error for LayoutError {}
 
 /// The byte order mark.
-const MARK: &[u8] = b"\xEF\xBB\xBF";
+pub const MARK: &[u8] = b"\xEF\xBB\xBF";
+
+/// Whether a byte is white space.
+pub const fn is_white(byte: &u8) -> bool {
+    matches!(byte, b' ' | b'\t' | b'\n' | b'\r')
+}
 
 /// The kind of end of file.
 const EOF: usize = 10;

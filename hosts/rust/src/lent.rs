@@ -2,8 +2,8 @@
 //!
 //! Each but [`default_settings`] answers 0 or the number of a refusal, whatever the numbers are that it is lent. `include/sporebasket.h` says
 //! what the slots hold.
-//! [`Reader`](crate::Reader), [`Attributes`](crate::events::attributes::Attributes), [`unescape`](crate::escape::unescape) and [`read_column`](crate::column::read_column) keep the memory
-//! and give the numbers their names.
+//! [`Reader`](crate::Reader), [`Attributes`](crate::events::attributes::Attributes), [`unescape`](crate::escape::unescape), [`read_column`](crate::column::read_column), [`Scan`](crate::feed::Scan) and
+//! [`Feeder`](crate::feed::Feeder) keep the memory and give the numbers their names.
 //!
 //! ```
 //! use sporebasket::lent;
@@ -28,7 +28,7 @@ use crate::raw::{self, answer as slot};
 use std::str;
 
 pub use crate::raw::{
-    ANSWER_SLOTS, ATTRIBUTE_SLOTS, COLUMN_SLOTS, LONGEST, MOST_NAMES, NAME_SLOTS, PART_SLOTS, STATE_SLOTS,
+    ANSWER_SLOTS, ATTRIBUTE_SLOTS, COLUMN_SLOTS, LONGEST, MOST_NAMES, NAME_SLOTS, PART_SLOTS, SCAN_SLOTS, STATE_SLOTS,
     UNESCAPE_SLOTS,
 };
 
@@ -400,4 +400,50 @@ pub fn column(document: &[u8], stack: &mut [usize], column: &mut [usize], answer
             answer.len(),
         )
     }
+}
+
+/// Makes a scan that has taken nothing, in the first [`SCAN_SLOTS`] slots: state, count, left and seen. The states to begin in are 1, a piece that its first bytes tell; 4, a tag; 7, a processing instruction;
+/// 8, a comment; 9, a CDATA section; and 11, text.
+///
+/// 17: any other state, or fewer slots. Then nothing is written.
+///
+/// ```
+/// use sporebasket::lent;
+///
+/// let mut scan = [9; lent::SCAN_SLOTS];
+/// assert_eq!(lent::scan(5, &mut scan), 17);
+/// // a comment, with four bytes of its opener to pass
+/// assert_eq!(lent::scan(8, &mut scan), 0);
+/// assert_eq!(scan, [8, 0, 4, 0]);
+/// ```
+pub fn scan(state: usize, scan: &mut [usize]) -> usize {
+    // SAFETY: pointer and count are those of a slice, so the pointer is not null; the scan is lent exclusively.
+    unsafe { raw::sporebasket_scan(state, scan.as_mut_ptr(), scan.len()) }
+}
+
+/// Goes on with a scan over the next piece of what it looks through, and writes the scan. Its first slot is then 0 if the byte was found that it looks for, and the second that byte's place, counted from the
+/// first byte of the first piece; else the second is how many bytes were taken. After the byte was found pieces of any length change nothing. [`feed`](crate::feed) says what is looked for.
+///
+/// For any cutting of the same bytes into pieces, empty ones included, the slots at the end are those for the bytes in one piece: that is proved (docs/PROMISES.md).
+///
+/// 17, before all else: fewer than [`SCAN_SLOTS`] slots, or numbers that no feeding leads to; the header has the rule. 16: the byte was not found, and the bytes with this piece are more than [`LONGEST`]. Both
+/// leave the scan as it was.
+///
+/// ```
+/// use sporebasket::lent;
+///
+/// let mut scan = [0; lent::SCAN_SLOTS];
+/// assert_eq!(lent::scan(1, &mut scan), 0);
+/// assert_eq!(lent::feed(b"<!--a-", &mut scan), 0);
+/// // in a comment (8), of whose closer the last byte may be one
+/// assert_eq!(scan, [8, 6, 0, 1]);
+/// assert_eq!(lent::feed(b"", &mut scan), 0);
+/// assert_eq!(lent::feed(b"->b", &mut scan), 0);
+/// // the `>`
+/// assert_eq!(scan, [0, 7, 0, 0]);
+/// ```
+#[inline]
+pub fn feed(piece: &[u8], scan: &mut [usize]) -> usize {
+    // SAFETY: pointers and counts are those of slices, so no pointer is null; the scan is lent exclusively, so it overlaps with nothing.
+    unsafe { raw::sporebasket_feed(piece.as_ptr(), piece.len(), scan.as_mut_ptr(), scan.len()) }
 }

@@ -1,4 +1,4 @@
-//! Sporebasket: a verified reader of the events of an XML document in memory.
+//! Sporebasket: a verified reader of the events of an XML document, in memory or coming in chunks.
 //!
 //! It is a port of quick-xml's pull reader over a byte slice. The code that reads is proved: for any bytes and settings the answer of a
 //! call, the state that is left and the open names are those of a definition, the end comes, and no opening is lost. This package
@@ -34,6 +34,8 @@
 //! With [`check_open_names`](reader::Config::check_open_names) a document that ends while names are open is refused: where
 //! [`Eof`](events::Event::Eof) comes and no error before it, every element was closed. [`Layout`](ext::Layout) counts that each byte of the document is in exactly one part.
 //!
+//! [`mod@feed`] reads a document that comes in chunks, as over a slow line, and gives each event as soon as its bytes are there; [`parser`] has quick-xml's parsers of markup in pieces.
+//!
 //! [`mod@column`] reads the times of a timetable's column, which may run past midnight:
 //!
 //! ```
@@ -58,11 +60,14 @@ pub mod errors;
 pub mod escape;
 pub mod events;
 pub mod ext;
+pub mod feed;
 mod layout;
 pub mod lent;
 pub mod name;
+pub mod parser;
 mod raw;
 pub mod reader;
+mod run;
 mod time;
 
 #[doc(inline)]

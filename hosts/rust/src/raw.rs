@@ -97,6 +97,12 @@ extern "C" {
         answer: *mut usize,
         answer_slots: usize,
     ) -> usize;
+
+    /// Makes a scan in `scan` that begins in this state: 0, or the refusal's number.
+    pub fn sporebasket_scan(state: usize, scan: *mut usize, scan_slots: usize) -> usize;
+
+    /// Goes on with the scan over the next piece, and writes the scan: 0, or the refusal's number.
+    pub fn sporebasket_feed(piece: *const u8, length: usize, scan: *mut usize, scan_slots: usize) -> usize;
 }
 
 /// The most bytes that a document may have.
@@ -126,11 +132,15 @@ pub const UNESCAPE_SLOTS: usize = 2;
 /// The slots of a column's answer: count, lower, number, place, piece, expected and found, a span in two slots.
 pub const COLUMN_SLOTS: usize = 10;
 
+/// The slots of a scan: state, count, left and seen.
+pub const SCAN_SLOTS: usize = 4;
+
 /// The slots of a state, by their places.
 pub mod state {
     pub const PHASE: usize = 0;
     pub const POSITION: usize = 1;
     pub const DEPTH: usize = 2;
+    pub const LENGTH: usize = 3;
     pub const SETTINGS: usize = 4;
 }
 
@@ -166,4 +176,11 @@ pub mod column {
     pub const PIECE: usize = 4;
     pub const EXPECTED: usize = 6;
     pub const FOUND: usize = 8;
+}
+
+/// The slots of a scan, by their places.
+pub mod scan {
+    pub const STATE: usize = 0;
+    pub const COUNT: usize = 1;
+    pub const SEEN: usize = 3;
 }

@@ -1,12 +1,11 @@
-//! The reader: the memory that the archive is lent, and the names of its numbers.
+//! The reader of a document that is there whole.
 
-use crate::errors::{owned, Error, Result, Told};
-use crate::events::{At, BytesText, Content, Event};
+use crate::errors::{Error, Result};
+use crate::events::{BytesText, Event};
 use crate::ext::{Phase, ReaderExt};
-use crate::lent;
 use crate::name::QName;
-use crate::raw::{answer, state, ANSWER_SLOTS, MOST_NAMES, NAME_SLOTS, STATE_SLOTS};
-use std::borrow::Cow;
+use crate::raw::{answer, ANSWER_SLOTS, MOST_NAMES, STATE_SLOTS};
+use crate::run::Run;
 use std::fmt;
 use std::mem;
 use std::ops::Range;
@@ -20,7 +19,7 @@ pub type Span = Range<u64>;
 /// A reader of the events of a document in memory.
 ///
 /// Whatever the bytes are, every call of [`read_event`](Reader::read_event) gives an event or a refusal with a number, nothing panics, and
-/// [`Eof`](Event::Eof) comes by call number length + 2, if the document is not longer than [`LONGEST`](lent::LONGEST).
+/// [`Eof`](Event::Eof) comes by call number length + 2, if the document is not longer than [`LONGEST`](crate::lent::LONGEST).
 ///
 /// On the heap a reader takes room for open names, 16 bytes for each: for a few at first. Where all of it is taken it is doubled before the next
 /// call, up to room for [`MOST_NAMES`], which is 1 MiB.
@@ -57,18 +56,7 @@ pub struct Reader<R> {
     document: R,
     /// What of the document is yet to be read.
     rest: R,
-    config: Config,
-    /// 0, or the number of the refusal to make a reader. Then the state holds none, and the archive refuses every call.
-    made: usize,
-    state: [usize; STATE_SLOTS],
-    /// The open names, with some room to spare while there may be more of them.
-    stack: Vec<usize>,
-    /// How many names may be open.
-    names: usize,
-    /// The depth at which a call is to be prepared: where the stack is full and may grow, or at once, if the settings may have changed.
-    pause: usize,
-    answer: [usize; ANSWER_SLOTS],
-    error_position: usize,
+    run: Run,
 }
 
 impl<R> Reader<R> {
@@ -78,7 +66,7 @@ impl<R> Reader<R> {
     /// assert!(sporebasket::Reader::from_str("").config().check_end_names);
     /// ```
     pub const fn config(&self) -> &Config {
-        &self.config
+        self.run.config()
     }
 
     /// The settings, to be changed. They count from the next call on.
@@ -94,8 +82,7 @@ impl<R> Reader<R> {
     /// # Ok::<(), sporebasket::Error>(())
     /// ```
     pub fn config_mut(&mut self) -> &mut Config {
-        self.pause = self.state[state::DEPTH];
-        &mut self.config
+        self.run.config_mut()
     }
 
     /// How far the reader has come: the bytes before this place are read.
@@ -107,7 +94,7 @@ impl<R> Reader<R> {
     /// # Ok::<(), sporebasket::Error>(())
     /// ```
     pub const fn buffer_position(&self) -> u64 {
-        self.state[state::POSITION] as u64
+        self.run.position() as u64
     }
 
     /// The place of the last refusal, to be shown to a user; 0 if there was none. It is where the piece begins, but for two hyphens in a comment,
@@ -122,7 +109,7 @@ impl<R> Reader<R> {
     /// # Ok::<(), sporebasket::Error>(())
     /// ```
     pub const fn error_position(&self) -> u64 {
-        self.error_position as u64
+        self.run.error_position() as u64
     }
 
     /// What of the document is yet to be read. Markup that the end of the document cuts off is not read.
@@ -151,13 +138,7 @@ impl<R> Reader<R> {
 
     /// The last answer, and the state that its call left.
     pub(crate) const fn last(&self) -> (&[usize; ANSWER_SLOTS], &[usize; STATE_SLOTS]) {
-        (&self.answer, &self.state)
-    }
-
-    /// A span of the last answer.
-    #[inline]
-    fn span(&self, slot: usize) -> (usize, usize) {
-        (self.answer[slot], self.answer[slot + 1])
+        self.run.last()
     }
 }
 
@@ -206,17 +187,14 @@ impl<'a> Reader<&'a [u8]> {
     /// ```
     #[inline]
     pub fn read_event(&mut self) -> Result<Event<'a>> {
-        if self.state[state::DEPTH] == self.pause {
-            self.prepare();
-        }
-        let done = self.state[state::PHASE] == DONE;
-        match lent::read_piece(self.document, &mut self.stack, &mut self.state, &mut self.answer) {
+        let done = self.run.is_done();
+        match self.run.read(self.document) {
             Ok(piece) => {
                 // of a run that is over, what was not read stays so
                 if !done {
-                    self.rest = self.rest_at(self.state[state::POSITION]);
+                    self.rest = self.rest_at(self.run.position());
                 }
-                Ok(self.event(piece))
+                Ok(self.run.event(self.document, piece))
             }
             Err(number) => Err(self.refused(number)),
         }
@@ -239,9 +217,9 @@ impl<'a> Reader<&'a [u8]> {
     pub fn read_event_into<'b>(&mut self, buf: &'b mut Vec<u8>) -> Result<Event<'b>> {
         let read = self.read_event().map(drop);
         let start = buf.len();
-        buf.extend_from_slice(self.bytes(answer::PIECE));
+        buf.extend_from_slice(self.piece_bytes());
         read?;
-        Ok(self.event(str::from_utf8(&buf[start..])?))
+        Ok(self.run.event(self.document, str::from_utf8(&buf[start..])?))
     }
 
     /// Reads on to the closing tag that belongs to an opening tag of this name which was read last. Gives the span between the two.
@@ -282,7 +260,7 @@ impl<'a> Reader<&'a [u8]> {
             reader.skip(end, |reader| {
                 let read = reader.read_event();
                 buf.clear();
-                buf.extend_from_slice(reader.bytes(answer::PIECE));
+                buf.extend_from_slice(reader.piece_bytes());
                 read
             })
         })
@@ -331,35 +309,9 @@ impl<'a> Reader<&'a [u8]> {
         span
     }
 
-    /// The event of the last answer, whose piece this is. The End of an expanded empty element has its name from another piece.
-    #[inline]
-    fn event<'p>(&self, piece: &'p str) -> Event<'p> {
-        let (from, to) = self.span(answer::CONTENT);
-        let start = self.answer[answer::PIECE];
-        let text = match piece.get(from.wrapping_sub(start)..to.wrapping_sub(start)) {
-            Some(text) => Cow::Borrowed(text),
-            None => Cow::Owned(owned(self.bytes(answer::CONTENT))),
-        };
-        let content = Content {
-            text,
-            name_len: self.answer[answer::NAME],
-            at: At::new(self.span(answer::PIECE), from),
-        };
-        Event::of_kind(self.answer[answer::KIND], content)
-    }
-
-    /// The bytes of a span of the last answer. It lies in the document.
-    #[inline]
-    fn bytes(&self, slot: usize) -> &'a [u8] {
-        let (from, to) = self.span(slot);
-        self.document.get(from..to).unwrap_or_default()
-    }
-
-    /// The bytes of the open names, the outermost first.
-    fn entries(&self) -> impl DoubleEndedIterator<Item = &'a [u8]> + ExactSizeIterator + '_ {
-        let document = self.document;
-        let entries = self.stack.chunks_exact(NAME_SLOTS).take(self.depth());
-        entries.map(move |entry| document.get(entry[0]..entry[1]).unwrap_or_default())
+    /// The bytes of the piece of the last answer.
+    fn piece_bytes(&self) -> &'a [u8] {
+        self.run.bytes(self.document, answer::PIECE)
     }
 
     /// The document from a place on.
@@ -368,39 +320,15 @@ impl<'a> Reader<&'a [u8]> {
         self.document.get(place..).unwrap_or_default()
     }
 
-    /// Puts the settings into the state, and makes a full stack larger, if there may be more names.
-    ///
-    /// A call opens one name at most. So with room for one more it answers as with room for all, and a name is refused for lack of room (15)
-    /// only where as many are open as may be.
-    #[cold]
-    fn prepare(&mut self) {
-        self.state[state::SETTINGS] = self.config.bits();
-        let mut room = self.stack.len() / NAME_SLOTS;
-        if self.depth() == room {
-            room = (2 * room).max(FIRST_NAMES).min(self.names);
-            self.stack.reserve_exact(room * NAME_SLOTS - self.stack.len());
-            self.stack.resize(room * NAME_SLOTS, 0);
-        }
-        self.pause = if room < self.names { room } else { usize::MAX };
-    }
-
-    /// The refusal of this number, or the one to make this reader, with what the last answer tells.
+    /// The refusal of this number, with what the last answer tells.
     #[cold]
     fn refused(&mut self, number: usize) -> Error {
-        self.error_position = self.answer[answer::PLACE];
-        let piece = self.bytes(answer::PIECE);
-        self.rest = self.rest_at(if is_read(number, piece) {
-            self.state[state::POSITION]
+        self.rest = self.rest_at(if is_read(number, self.piece_bytes()) {
+            self.run.position()
         } else {
-            self.answer[answer::PIECE]
+            self.run.piece().start
         });
-        let told = Told {
-            piece,
-            expected: self.bytes(answer::EXPECTED),
-            found: self.bytes(answer::FOUND),
-            latest: self.entries().next_back().unwrap_or_default(),
-        };
-        Error::numbered(if self.made == 0 { number } else { self.made }, told)
+        self.run.refused(self.document, number)
     }
 }
 
@@ -417,52 +345,36 @@ fn is_read(number: usize, piece: &[u8]) -> bool {
 
 impl<'a> ReaderExt<'a> for Reader<&'a [u8]> {
     fn with_capacity(document: &'a [u8], names: usize) -> Self {
-        let config = Config::default();
-        let mut state = [0; STATE_SLOTS];
-        let made = lent::new(document, config.bits(), &mut state);
         Reader {
             document,
             rest: document,
-            config,
-            made,
-            state,
-            stack: Vec::new(),
-            names: names.min(MOST_NAMES),
-            pause: 0,
-            answer: [0; ANSWER_SLOTS],
-            error_position: 0,
+            run: Run::new(document, names),
         }
     }
 
     fn piece(&self) -> Range<usize> {
-        let (from, to) = self.span(answer::PIECE);
-        from..to
+        self.run.piece()
     }
 
     fn expected(&self) -> Option<Range<usize>> {
-        let (from, to) = self.span(answer::EXPECTED);
-        (self.answer[answer::NUMBER] == MISMATCHED).then_some(from..to)
+        self.run.expected()
     }
 
     fn found(&self) -> Option<Range<usize>> {
-        let (from, to) = self.span(answer::FOUND);
-        let number = self.answer[answer::NUMBER];
-        (number == MISMATCHED || number == UNMATCHED).then_some(from..to)
+        self.run.found()
     }
 
     #[inline]
     fn depth(&self) -> usize {
-        self.state[state::DEPTH]
+        self.run.depth()
     }
 
     fn open_names(&self) -> impl DoubleEndedIterator<Item = QName<'a>> + ExactSizeIterator + '_ {
-        // a name that was read is UTF-8
-        self.entries()
-            .map(|name| QName(str::from_utf8(name).unwrap_or_default()))
+        self.run.open_names(self.document)
     }
 
     fn phase(&self) -> Phase {
-        Phase::numbered(self.state[state::PHASE])
+        self.run.phase()
     }
 
     fn document(&self) -> &'a [u8] {
@@ -470,68 +382,14 @@ impl<'a> ReaderExt<'a> for Reader<&'a [u8]> {
     }
 }
 
-/// How many names a reader has room for at its first call, if it may have as many.
-const FIRST_NAMES: usize = 32;
-
-/// The phase of a run that is over.
-const DONE: usize = 5;
-
 /// The refusals of markup whose end may have been found, and the last of those that may be of markup whose end was not.
 const UNCLOSED_COMMENT: usize = 4;
 const UNCLOSED_CDATA: usize = 5;
 const UNCLOSED_PI: usize = 6;
 const INVALID_BANG_MARKUP: usize = 8;
 
-/// The refusals that tell names.
-const MISMATCHED: usize = 10;
-const UNMATCHED: usize = 11;
-
 impl<R> fmt::Debug for Reader<R> {
     fn fmt(&self, f: &mut fmt::Formatter<'_>) -> fmt::Result {
-        f.debug_struct("Reader")
-            .field("phase", &Phase::numbered(self.state[state::PHASE]))
-            .field("position", &self.buffer_position())
-            .field("depth", &self.state[state::DEPTH])
-            .field("config", &self.config)
-            .finish_non_exhaustive()
-    }
-}
-
-#[cfg(test)]
-mod tests {
-    use super::{Event, Reader, ReaderExt, FIRST_NAMES, MOST_NAMES, NAME_SLOTS};
-
-    /// Reads a document that opens more names than may be, and sees the room before and after each call. Settings that may have changed make no room.
-    fn room_doubles_where_it_is_full(asked: usize, changed: bool) {
-        let names = asked.min(MOST_NAMES);
-        let document = "<a>".repeat(names + 1);
-        let mut reader = Reader::with_capacity(document.as_bytes(), asked);
-        loop {
-            let (depth, room) = (reader.depth(), reader.stack.len() / NAME_SLOTS);
-            if changed {
-                reader.config_mut();
-            }
-            let answer = reader.read_event();
-            let full = depth == room;
-            let wanted = if full {
-                (2 * room).max(FIRST_NAMES).min(names)
-            } else {
-                room
-            };
-            assert_eq!(reader.stack.len(), wanted * NAME_SLOTS);
-            assert_eq!(reader.stack.capacity(), reader.stack.len());
-            if answer == Ok(Event::Eof) {
-                break;
-            }
-        }
-        assert_eq!(reader.depth(), names);
-    }
-
-    #[test]
-    fn room_grows_before_a_call_that_could_need_it_and_to_no_more_than_was_asked_for() {
-        for asked in [0, 1, 2, 31, 32, 33, 65, 100, MOST_NAMES - 1, MOST_NAMES, MOST_NAMES + 1] {
-            room_doubles_where_it_is_full(asked, false);
-            room_doubles_where_it_is_full(asked, true);
-        }
+        self.run.show("Reader", f)
     }
 }

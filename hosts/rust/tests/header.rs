@@ -1,5 +1,6 @@
 //! The numbers that `include/sporebasket.h` gives to C are those of the archive and of this package.
 
+use sporebasket::feed::Scan;
 use sporebasket::lent::{self, LONGEST, MOST_NAMES};
 use std::collections::HashMap;
 use std::fs;
@@ -59,6 +60,14 @@ impl Header {
         (number, answer)
     }
 
+    /// A scan that begins in the state of this name and is fed these bytes.
+    fn scan(&self, state: &str, bytes: &[u8]) -> Vec<usize> {
+        let mut scan = vec![0; self.get("SCAN_SLOTS")];
+        assert_eq!(lent::scan(self.get(&format!("SCAN_{state}")), &mut scan), 0);
+        assert_eq!(lent::feed(bytes, &mut scan), 0);
+        scan
+    }
+
     /// The answer to a column with room for two times and one name.
     fn column(&self, document: &[u8]) -> Vec<usize> {
         let mut stack = vec![0; self.get("NAME_SLOTS")];
@@ -81,6 +90,7 @@ fn limits_and_slots() {
     assert_eq!(header.get("ATTRIBUTE_SLOTS"), lent::ATTRIBUTE_SLOTS);
     assert_eq!(header.get("UNESCAPE_SLOTS"), lent::UNESCAPE_SLOTS);
     assert_eq!(header.get("COLUMN_SLOTS"), lent::COLUMN_SLOTS);
+    assert_eq!(header.get("SCAN_SLOTS"), lent::SCAN_SLOTS);
     let defaults = header.get("CHECK_END_NAMES") + header.get("TRIM_MARKUP_NAMES_IN_CLOSING_TAGS");
     assert_eq!(lent::default_settings(), defaults);
 }
@@ -358,4 +368,73 @@ fn slots_of_a_column() {
             assert_eq!(answer[header.get(&format!("COLUMN_{slot}"))], *value, "{slot}");
         }
     }
+}
+
+#[test]
+fn states_of_a_scan() {
+    let header = Header::read();
+    let rows: [(&str, &[u8]); 12] = [
+        ("CLOSED", b"<!x"),
+        ("PIECE", b""),
+        ("OPENED", b"<"),
+        ("BANG", b"<!"),
+        ("TAG", b"<a"),
+        ("SINGLE_QUOTED", b"<'"),
+        ("DOUBLE_QUOTED", b"<\""),
+        ("PI", b"<?"),
+        ("COMMENT", b"<!-"),
+        ("CDATA", b"<!["),
+        ("REFERENCE", b"&"),
+        ("TEXT", b"a"),
+    ];
+    for (state, bytes) in rows {
+        let number = header.get(&format!("SCAN_{state}"));
+        let scan = header.scan("PIECE", bytes);
+        assert_eq!(scan[header.get("SCAN_STATE")], number, "{state}");
+        let mut scan = Scan::piece();
+        scan.feed(bytes).unwrap();
+        assert_eq!(scan.state() as usize, number, "{state}");
+        let begins = ["PIECE", "TAG", "PI", "COMMENT", "CDATA", "TEXT"].contains(&state);
+        let answer = if begins { 0 } else { header.get("BAD_STATE") };
+        assert_eq!(lent::scan(number, &mut [0; 4]), answer, "{state}");
+    }
+    assert_eq!(lent::scan(rows.len(), &mut [0; 4]), header.get("BAD_STATE"));
+    for (state, scan) in [
+        ("PIECE", Scan::piece()),
+        ("TAG", Scan::tag()),
+        ("PI", Scan::pi()),
+        ("COMMENT", Scan::comment()),
+        ("CDATA", Scan::cdata()),
+        ("TEXT", Scan::text()),
+    ] {
+        assert_eq!(scan.state() as usize, header.get(&format!("SCAN_{state}")), "{state}");
+    }
+}
+
+#[test]
+fn slots_and_refusals_of_a_scan() {
+    let header = Header::read();
+    type Slots = &'static [(&'static str, usize)];
+    let rows: [(&str, &[u8], Slots); 5] = [
+        ("COMMENT", b"", &[("COUNT", 0), ("LEFT", 4), ("SEEN", 0)]),
+        ("PIECE", b"<!-", &[("COUNT", 3), ("LEFT", 1), ("SEEN", 0)]),
+        ("PIECE", b"<!--a--", &[("COUNT", 7), ("LEFT", 0), ("SEEN", 2)]),
+        ("PI", b"<?a?", &[("COUNT", 4), ("SEEN", 1)]),
+        (
+            "CDATA",
+            b"<![CDATA[]]]>a",
+            &[("STATE", 0), ("COUNT", 12), ("LEFT", 0), ("SEEN", 0)],
+        ),
+    ];
+    for (state, bytes, slots) in rows {
+        let scan = header.scan(state, bytes);
+        for (slot, value) in slots {
+            assert_eq!(scan[header.get(&format!("SCAN_{slot}"))], *value, "{slot}");
+        }
+    }
+    let mut scan = header.scan("TEXT", b"a");
+    let longest = vec![b'a'; header.get("LONGEST")];
+    assert_eq!(lent::feed(&longest, &mut scan), header.get("SLICE_TOO_LONG"));
+    scan[header.get("SCAN_SEEN")] = 1;
+    assert_eq!(lent::feed(b"a", &mut scan), header.get("BAD_STATE"));
 }

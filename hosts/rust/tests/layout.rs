@@ -2,7 +2,7 @@
 
 mod common;
 
-use common::{word, Numbers, LETTERS, MARKUP};
+use common::{word, Numbers, BYTES, DOCUMENTS, LETTERS, MARKUP};
 use sporebasket::errors::Error;
 use sporebasket::events::Event;
 use sporebasket::ext::{ErrorExt, Layout, LayoutError, Parts, ReaderExt};
@@ -111,83 +111,6 @@ fn held(reader: &mut Reader<&[u8]>, seen: &mut Seen) -> Vec<String> {
     said
 }
 
-const DOCUMENTS: &[&[u8]] = &[
-    // the byte order mark: alone, before all there is, cut, twice, and not at the start
-    b"\xEF\xBB\xBF",
-    b"\xEF\xBB\xBF \n",
-    b"\xEF\xBB\xBF<a/>",
-    b"\xEF\xBB\xBF\t<a> </a>",
-    b"\xEF\xBB\xBF&a;",
-    b"\xEF\xBB\xBF</a>",
-    b"\xEF\xBB\xBF<!x>",
-    b"\xEF\xBB\xBF \xC0\x80",
-    b"\xEF\xBB",
-    b"\xEF\xBB\xBE<a/>",
-    b"\xEF\xBB\xBF\xEF\xBB\xBF",
-    b" \xEF\xBB\xBF<a/>",
-    // white space, and what is none
-    b"",
-    b" ",
-    b" \t\r\n",
-    b" \t<a>\r\n b \t</a> \n ",
-    b" a ",
-    b" \x0B \x0C a",
-    b"\xC2\xA0 <a/> \xC2\x85",
-    b" &a; &b; ",
-    b" <!-- a --> <![CDATA[ ]]> <?a ?> ",
-    b"<?xml version='1.0'?>\n<a b = ' ' >\n</a >\n",
-    b"<a/> \n",
-    b"<a> \n",
-    b"a \n",
-    b"&a; ",
-    // refusals that go on
-    b"<!--a--b--> <c/>",
-    b"<!----->",
-    b"<a> </b> <c/>",
-    b"<a><b></c></d></e> ",
-    b" </a> b",
-    b"a &b <c/>",
-    b"& &b ;c&",
-    b"<a> &b",
-    // empty elements
-    b" <a/> <b c='d'/> ",
-    b"<a><b/> </a>",
-    b"</a><b/>",
-    b"< /></>",
-    // refusals that end the run, some with bytes behind them
-    b"<",
-    b"a<",
-    b" <",
-    b"<a> <b",
-    b"<a b='>",
-    b" <a b=\"> ",
-    b"<!",
-    b"a <!-- b",
-    b"<!-->",
-    b"<!--->",
-    b" <!-b--> c",
-    b"<![CDATA[ ]] >",
-    b"<![]]> ",
-    b"<?",
-    b"<?>",
-    b" <?> a",
-    b"<?xml ",
-    b"<!x>",
-    b"a <!x> b",
-    b"\xC0\x80",
-    b" \xC0\x80 <a/>",
-    b"a<b \xFF>c",
-    b"a &\xE2\x82; b",
-    b"<!DOCTYPE a>",
-    b"\n<!doctype a> <b/>",
-    b"<a> <!D",
-    // names that stay open, and more of them than there is room for
-    b"<a> ",
-    b"<a><b></b> ",
-    b"<a> <b> <c> </c></b></a>",
-    b"</a><b>",
-];
-
 #[test]
 fn every_document_with_all_settings() {
     let mut seen = Seen::default();
@@ -205,9 +128,6 @@ fn every_document_with_all_settings() {
     assert!(seen.marks > 0 && seen.whites > 0 && seen.whites_before_a_stop > 0);
     assert!(seen.empty_ends > 0 && seen.trimmed_ends > 0 && seen.left > 0);
 }
-
-/// The bytes that markup is made of.
-const BYTES: &[u8] = b"<<<<<<>>>>>>///!?--[]&&;;'\"=    \t\r\naaabxmlCDAT\xC3\xA9";
 
 #[test]
 fn any_document_with_any_settings() {

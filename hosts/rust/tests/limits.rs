@@ -3,6 +3,7 @@
 use sporebasket::errors::{Error, Refused};
 use sporebasket::events::Event;
 use sporebasket::ext::{ErrorExt, ReaderExt};
+use sporebasket::feed::{Feeder, Scan};
 use sporebasket::lent::{self, LONGEST, MOST_NAMES};
 use sporebasket::name::QName;
 use sporebasket::Reader;
@@ -50,6 +51,49 @@ fn a_state_over_a_byte_more_is_refused() {
         let done = [5, length, 0, length, settings, 0];
         assert_eq!(state, if number == 0 { done } else { fresh });
     }
+}
+
+#[test]
+fn a_document_in_chunks_is_as_long_at_most() {
+    let chunk = vec![b'a'; LONGEST / 4 + 1];
+    let mut feeder = Feeder::new();
+    for _ in 0..3 {
+        assert_eq!(feeder.feed(&chunk), Ok(()));
+        assert_eq!(feeder.read_event(), Ok(None));
+    }
+    assert_eq!(feeder.feed(&chunk), Err(Error::Refused(Refused::SliceTooLong)));
+    // nothing of it was taken, and there is room for what is left
+    assert_eq!((feeder.document().len(), feeder.error_position()), (3 * chunk.len(), 0));
+    assert_eq!(feeder.feed(&chunk[4..]), Ok(()));
+    assert_eq!(feeder.read_event(), Ok(None));
+    assert_eq!(feeder.feed(b"<"), Err(Error::Refused(Refused::SliceTooLong)));
+    assert_eq!(feeder.feed(b""), Ok(()));
+    feeder.finish();
+    assert_eq!(
+        feeder.read_event().map(|event| event.map(|text| text.len())),
+        Ok(Some(LONGEST))
+    );
+    assert_eq!(feeder.read_event(), Ok(Some(Event::Eof)));
+}
+
+#[test]
+fn a_scan_takes_as_many_bytes_as_a_document_has() {
+    let most = vec![b'a'; LONGEST];
+    let mut scan = Scan::text();
+    assert_eq!(scan.feed(&most[1..]), Ok(None));
+    let before = scan;
+    assert_eq!(scan.feed(b"a<"), Err(Refused::SliceTooLong));
+    // even if the byte would stand within the limit
+    assert_eq!(scan.feed(b"<a"), Err(Refused::SliceTooLong));
+    assert_eq!(scan, before);
+    let mut full = scan;
+    assert_eq!((full.feed(b"a"), full.taken()), (Ok(None), LONGEST));
+    assert_eq!(full.feed(b""), Ok(None));
+    assert_eq!(full.feed(b"<"), Err(Refused::SliceTooLong));
+    // after the byte was found pieces of any length are taken
+    assert_eq!(scan.feed(b"<"), Ok(Some(LONGEST - 1)));
+    assert_eq!(scan.feed(&most), Ok(Some(LONGEST - 1)));
+    assert_eq!(scan.feed(&most), Ok(Some(LONGEST - 1)));
 }
 
 /// Opens names, one in the other, and sees that they are.
@@ -138,6 +182,12 @@ fn too_few_slots_are_refused() {
         assert_eq!(lent::read_event(document, &mut stack, &mut state, &mut answer), 17);
         assert_eq!((state, stack, answer), ([0, 0, 0, 3, 40, 0], [9; 4], vec![9; slots]));
     }
+    for slots in 0..lent::SCAN_SLOTS {
+        let mut scan = vec![4; slots];
+        assert_eq!(lent::scan(4, &mut scan), 17);
+        assert_eq!(lent::feed(b">", &mut scan), 17);
+        assert_eq!(scan, vec![4; slots]);
+    }
     for slots in 0..lent::PART_SLOTS {
         let mut part = vec![9; slots];
         assert_eq!(lent::content(document, 0, 1, &mut part), 17);
@@ -154,6 +204,10 @@ fn slots_to_spare_are_left_alone() {
     assert_eq!(state, [1, 3, 1, 3, 40, 0, 9, 9]);
     assert_eq!(stack, [1, 2, 9, 9, 9]);
     assert_eq!(answer, [1, 0, 0, 0, 3, 1, 2, 1, 0, 0, 0, 0, 9, 9]);
+    let mut scan = [9; 6];
+    assert_eq!(lent::scan(4, &mut scan), 0);
+    assert_eq!(lent::feed(document, &mut scan), 0);
+    assert_eq!(scan, [0, 2, 0, 0, 9, 9]);
 }
 
 /// All bits above those of the nine settings.

@@ -1,0 +1,9 @@
+pub mod Stays
+pub mod Ended
+pub mod Cuts
+pub mod Makes
+pub mod Emits
+pub mod Steps
+pub mod Arrivals
+pub mod Runs
+pub mod Worked

@@ -1,0 +1,2 @@
+pub mod Whole
+pub mod Arriving
