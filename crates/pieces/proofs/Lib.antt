@@ -1,4 +1,5 @@
 pub mod Machine
+pub mod Texts
 pub mod Turns
 pub mod Tests
 pub mod Calls

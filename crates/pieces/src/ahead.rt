@@ -4,13 +4,13 @@ use crate::marked::seen_end;
 use crate::scan::Kind;
 use crate::scan::State;
 use crate::tag::tag_end;
+use crate::text::text_on;
 use parser::element;
 use parser::element::element_end;
 use parser::first;
 use parser::marks;
 use parser::marks::marks_end;
 use parser::reference::reference_end;
-use parser::text::text_end;
 ghost use mathlib.Core.Path.{_≡_};
 ghost use Rattle.parser.specs.Machine.{scanAt};
 ghost use Rattle.pieces.specs.Kinds.{pieceStep};
@@ -36,7 +36,7 @@ pub fn onward(piece: &[u8], from: usize, state: State) -> Ahead
             marked_end(piece, from, marks, kind.mark(), kind.need()),
         ),
         State::Reference => reference(piece, from),
-        State::Text => in_first(State::Text, text_end(piece, from)),
+        State::Text => in_first(State::Text, text_on(piece, from)),
     }
 }
 
@@ -51,7 +51,7 @@ fn start(piece: &[u8], from: usize) -> Ahead
     match b {
         b'<' => opened(piece, from + 1),
         b'&' => reference(piece, from + 1),
-        _ => in_first(State::Text, text_end(piece, from + 1)),
+        _ => in_first(State::Text, text_on(piece, from + 1)),
     }
 }
 

@@ -6,3 +6,4 @@ mod marked;
 mod reached;
 pub mod scan;
 mod tag;
+mod text;
