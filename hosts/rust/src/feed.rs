@@ -1,7 +1,7 @@
 //! Input that comes in pieces, as over a slow line: scans that are fed piece by piece, and a reader of a document whose bytes come by and by.
 //!
 //! A [`Scan`] looks for the end of markup or text, and tells its place, counted from the first byte of the first piece. A [`Feeder`] gives each event of a document as soon as its bytes have come. For any
-//! cutting, empty pieces included, both answer as for the bytes in one piece: of a scan that is proved (docs/PROMISES.md).
+//! cutting, empty pieces included, both answer as for the bytes in one piece. Of a scan that is proved, and of a call on the bytes so far that its piece is whole in (docs/PROMISES.md, "pieces" and "arrivals").
 //!
 //! ```
 //! use sporebasket::events::Event;
