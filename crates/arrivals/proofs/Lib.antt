@@ -6,4 +6,5 @@ pub mod Emits
 pub mod Steps
 pub mod Arrivals
 pub mod Runs
+pub mod Hosts
 pub mod Worked

@@ -1,2 +1,3 @@
 pub mod Whole
 pub mod Arriving
+pub mod Hosts
