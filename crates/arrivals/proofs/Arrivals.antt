@@ -1,6 +1,7 @@
 -- A call on the bytes so far, of which the piece that it reads is whole there, is the call on the whole document. Assumes nothing.
 use Prim.Native.Nat.{ℕ, _≤_, _<_}
-use mathlib.Core.Path.{_≡_, sym, ap, _∙_, subst}
+use mathlib.Core.Path.{_≡_, sym, ap, _∙_}
+use mathlib.Core.Logic.{_↔_}
 use mathlib.Core.List.{List, _∷_, _++_}
 use native.Mathlib.Omega.{arith}
 use lib.ListN.{length, drop, length-append, length-drop}
@@ -11,7 +12,7 @@ use Rattle.state.specs.Limits.{longest}
 use Rattle.pieces.specs.declared.scan.What.{What}
 use Rattle.pieces.specs.declared.scan.Fed.{Fed}
 use Rattle.pieces.specs.declared.scan.Told.{Told}
-use Rattle.pieces.specs.Fed.{fresh}
+use Rattle.pieces.specs.Fed.{fed, fresh}
 use Rattle.pieces.specs.Pieces.{joined, fedAll}
 use Rattle.pieces.proofs.Cutting.{two-pieces}
 use Rattle.pieces.proofs.Theorems.{however-cut-the-answer-is-that-for-the-uncut-bytes, what-is-found-stays-found}
@@ -53,15 +54,12 @@ both-calls-answer-alike doc more stack r s t after left at all w p q =
 
 -- ---- what is whole
 
--- THEOREM: a scan that was fed the bytes in chunks, as they came, and tells a place says that the piece is whole
-pub a-scan-fed-in-chunks-says-what-is-whole : (bytes chunk : List ℕ) (chunks : List (List ℕ)) (place : ℕ) → joined (chunk ∷ chunks) ≡ bytes → length bytes ≤ longest
-    → fedAll (fresh What.Piece) chunk chunks .told ≡ Told.At place → Closes bytes
-a-scan-fed-in-chunks-says-what-is-whole bytes chunk chunks place e h t =
-    subst Closes e
-    (record {
-      place = place;
-      tells = ap (λ (x : Fed). x .told) (sym (however-cut-the-answer-is-that-for-the-uncut-bytes (fresh What.Piece) chunk chunks (rw e (omega arith)))) ∙ t;
-    })
+-- THEOREM: a scan that was fed the bytes in chunks, as they came, tells a place exactly when the scan of all of them does: when the piece is whole
+pub a-scan-fed-in-chunks-says-when-a-piece-is-whole : (chunk : List ℕ) (chunks : List (List ℕ)) (place : ℕ) → length (joined (chunk ∷ chunks)) ≤ longest
+    → (fedAll (fresh What.Piece) chunk chunks .told ≡ Told.At place) ↔ (fed (fresh What.Piece) (joined (chunk ∷ chunks)) .told ≡ Told.At place)
+a-scan-fed-in-chunks-says-when-a-piece-is-whole chunk chunks place h =
+    let e = ap (λ (x : Fed). x .told) (however-cut-the-answer-is-that-for-the-uncut-bytes (fresh What.Piece) chunk chunks (omega arith)) in
+    (λ t. sym e ∙ t, λ t. e ∙ t)
 
 -- ---- and stays whole
 

@@ -11,12 +11,9 @@ use Rattle.ground.specs.Bytes.{amp, bang, hyphen, lt, openBracket, question, sl
 use Rattle.ground.specs.Choose.{pick}
 use Rattle.ground.proofs.First.{found-has}
 use Rattle.ground.proofs.Lists.{stands-in}
-use Rattle.parser.specs.Machine.{Scan as Course, found, going}
 use Rattle.parser.specs.Element.{elementAnswer, elementFound}
 use Rattle.parser.specs.First.{firstAnswer, firstFound, referenceFound, textFound}
 use Rattle.parser.specs.Marks.{marksAnswer, marksFound, cdataFound, commentFound, piFound}
-use Rattle.parser.specs.declared.element.ElementState.{ElementState}
-use Rattle.parser.specs.declared.marks.Marks.{Marks}
 use Rattle.parser.specs.declared.element.Found.{Found as TagFound}
 use Rattle.parser.specs.declared.first.Found.{Found as FirstFound}
 use Rattle.parser.specs.declared.marks.Found.{Found as MarksFound}
@@ -25,21 +22,7 @@ use Rattle.state.specs.declared.answer.Error.{Error}
 use Rattle.reader.specs.declared.piece.Shape.{Shape}
 use Rattle.reader.specs.Cut.{phaseAt, cutText, cutRef, cutTag, cutMarked, cutBang, cutQuestion, cutMarkup, cutNext}
 use Rattle.arrivals.proofs.Stays.{grows, byte-stays, scan-stays}
-use Rattle.arrivals.proofs.Ended.{Ended, text, reference, tag, instruction, cdata, comment, other}
-
--- ---- an answer that tells a place is a scan that has found it
-
-tag-at : (p : ℕ) (c : Course ElementState) → elementAnswer c ≡ TagFound.At p → c ≡ found p
-tag-at p (found q) e = cc
-tag-at p (going s) e = let z : _≡_ {A = ℕ} 0 1 = cc in absurd (omega arith)
-
-marks-at : (p : ℕ) (c : Course Marks) → marksAnswer c ≡ MarksFound.At p → c ≡ found p
-marks-at p (found q) e = cc
-marks-at p (going s) e = let z : _≡_ {A = ℕ} 0 1 = cc in absurd (omega arith)
-
-first-at : (p : ℕ) (c : Course (Unit {0})) → firstAnswer c ≡ FirstFound.At p → c ≡ found p
-first-at p (found q) e = cc
-first-at p (going s) e = let z : _≡_ {A = ℕ} 0 1 = cc in absurd (omega arith)
+use Rattle.arrivals.proofs.Ended.{tag-at, marks-at, first-at, Ended, text, reference, tag, instruction, cdata, comment, other}
 
 -- two choices by one test
 pub both-picked : {A : Type 0} (t : Bool) (x y x′ y′ : A) → (t ≡ true → x ≡ x′) → (t ≡ false → y ≡ y′) → pick t x y ≡ pick t x′ y′

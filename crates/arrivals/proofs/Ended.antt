@@ -28,6 +28,7 @@ use Rattle.pieces.specs.Kinds.{markOf, needOf, openerOf}
 use Rattle.pieces.specs.Pieces.{tagFed, markedFed, firstFed, bangFed, markupFed, pieceFed}
 use Rattle.pieces.proofs.Machine.{moved, feed-moved}
 use Rattle.pieces.proofs.Whole.{whole-piece}
+use Rattle.pieces.proofs.Theorems.{tag-back, marked-back, first-back, found-open}
 use Rattle.arrivals.specs.Whole.{Closes}
 
 -- a piece at `from` with its end
@@ -47,20 +48,26 @@ pub data Ended (doc : List ℕ) (from : ℕ) : Type 0 where
 
 -- ---- a place is told only where a scan has found it
 
-apart : {A : Type 0} (p : ℕ) → Told.Open ≡ Told.At p → A
-apart p e = let z : _≡_ {A = ℕ} 0 1 = cc in absurd (omega arith)
+pub tag-at : (p : ℕ) (c : Course ElementState) → elementAnswer c ≡ TagFound.At p → c ≡ found p
+tag-at p (found q) e = cc
+tag-at p (going s) e = let z : _≡_ {A = ℕ} 0 1 = cc in absurd (omega arith)
+
+pub marks-at : (p : ℕ) (c : Course Marks) → marksAnswer c ≡ MarksFound.At p → c ≡ found p
+marks-at p (found q) e = cc
+marks-at p (going s) e = let z : _≡_ {A = ℕ} 0 1 = cc in absurd (omega arith)
+
+pub first-at : (p : ℕ) (c : Course (Unit {0})) → firstAnswer c ≡ FirstFound.At p → c ≡ found p
+first-at p (found q) e = cc
+first-at p (going s) e = let z : _≡_ {A = ℕ} 0 1 = cc in absurd (omega arith)
 
 tag-found : (n p : ℕ) (c : Course ElementState) → tagFed n (elementAnswer c) .told ≡ Told.At p → c ≡ found p
-tag-found n p (found q) e = cc
-tag-found n p (going s) e = apart p e
+tag-found n p c e = tag-at p c (tag-back n (elementAnswer c) p e)
 
 marks-found : (k : Kind) (n p : ℕ) (c : Course Marks) → markedFed k n (marksAnswer c) .told ≡ Told.At p → c ≡ found p
-marks-found k n p (found q) e = cc
-marks-found k n p (going s) e = apart p e
+marks-found k n p c e = marks-at p c (marked-back k n (marksAnswer c) p e)
 
 first-found : (t : State) (n p : ℕ) (c : Course (Unit {0})) → firstFed t n (firstAnswer c) .told ≡ Told.At p → c ≡ found p
-first-found t n p (found q) e = cc
-first-found t n p (going s) e = apart p e
+first-found t n p c e = first-at p c (first-back t n (firstAnswer c) p e)
 
 module _ (doc : List ℕ) (from : ℕ) where
   -- ---- byte k from `from` on is the byte at i
@@ -103,41 +110,41 @@ module _ (doc : List ℕ) (from : ℕ) where
       bang-ended : getD doc (from + 1) 0 ≡ bang → Tells (bangFed (drop from doc))
       bang-ended b =
           pick-cases Tells (leb (length (drop from doc)) 2) _ _
-          (λ z e. apart place e)
+          (λ z e. found-open place e)
           (λ z. pick-cases Tells (eqb (getD (drop from doc) 2 0) openBracket) _ _
-          (λ x e. cdata (from + place) l b (is 2 _ _ refl x) (marked-ended Kind.CData _ e))
+          (λ x e. cdata (from + place) l b (is 2 _ _ refl x) (marked-ended Kind.CData (length (drop from doc)) e))
           (λ x. pick-cases Tells (eqb (getD (drop from doc) 2 0) hyphen) _ _
-          (λ y e. comment (from + place) l b (is 2 _ _ refl y) (marked-ended Kind.Comment _ e))
+          (λ y e. comment (from + place) l b (is 2 _ _ refl y) (marked-ended Kind.Comment (length (drop from doc)) e))
           (λ y e. other l b (come 2 _ refl z) (is-not 2 _ _ refl x) (is-not 2 _ _ refl y))))
 
       markup-ended : Tells (markupFed (drop from doc))
       markup-ended =
           pick-cases Tells (leb (length (drop from doc)) 1) _ _
-          (λ z e. apart place e)
+          (λ z e. found-open place e)
           (λ z. pick-cases Tells (eqb (getD (drop from doc) 1 0) bang) _ _
           (λ x. bang-ended (is 1 _ _ refl x))
           (λ x. pick-cases Tells (eqb (getD (drop from doc) 1 0) question) _ _
-          (λ y e. instruction (from + place) l (is 1 _ _ refl y) (marked-ended Kind.Pi _ e))
+          (λ y e. instruction (from + place) l (is 1 _ _ refl y) (marked-ended Kind.Pi (length (drop from doc)) e))
           (λ y e. tag (from + place) l (come 1 _ refl z) (is-not 1 _ _ refl x) (is-not 1 _ _ refl y)
-          (ap elementAnswer (found-here _ _ 0 from place here (tag-found _ place _ e))))))
+          (ap elementAnswer (found-here _ _ 0 from place here (tag-found (length (drop from doc)) place _ e))))))
 
     piece-ended : Tells (pieceFed (drop from doc))
     piece-ended =
         pick-cases Tells (leb (length (drop from doc)) 0) _ _
-        (λ z e. apart place e)
+        (λ z e. found-open place e)
         (λ z. pick-cases Tells (eqb (getD (drop from doc) 0 0) lt) _ _
         (λ x. markup-ended (is 0 _ _ here x))
         (λ x. pick-cases Tells (eqb (getD (drop from doc) 0 0) amp) _ _
         (λ y e. reference (from + place) (is 0 _ _ here y)
-        (ap firstAnswer (found-here _ _ 1 (from + 1) place refl (first-found State.Reference _ place _ e))))
+        (ap firstAnswer (found-here _ _ 1 (from + 1) place refl (first-found State.Reference (length (drop from doc)) place _ e))))
         (λ y e. text (from + place) (is-not 0 _ _ here x) (is-not 0 _ _ here y)
-        (ap firstAnswer (found-here _ _ 0 from place here (first-found State.Text _ place _ e))))))
+        (ap firstAnswer (found-here _ _ 0 from place here (first-found State.Text (length (drop from doc)) place _ e))))))
 
     -- and it stands before the end
     piece-come : pieceFed (drop from doc) .told ≡ Told.At place → from < length doc
     piece-come =
         pick-cases (λ (x : Fed). x .told ≡ Told.At place → from < length doc) (leb (length (drop from doc)) 0) _ _
-        (λ z e. apart place e)
+        (λ z e. found-open place e)
         (λ z e. come 0 from here z)
 
   module _ (h : length doc ≤ longest) (w : Closes (drop from doc)) where

@@ -7,8 +7,7 @@ use native.Mathlib.Omega.{arith}
 use lib.ListN.{length, getD}
 use lib.Dec.{eqb, ltb}
 use lib.Seq.{getD-set-other}
-use native.Mathlib.Decide.{decLt}
-use borrow.Author.Tests.{le-ltb, lt-ltb}
+use borrow.Author.Tests.{le-ltb}
 use Rattle.ground.specs.Choose.{pick}
 use Rattle.state.specs.declared.answer.Answer.{Answer}
 use Rattle.state.specs.declared.run.Reader.{Reader}
@@ -23,6 +22,7 @@ use Rattle.capi.specs.Numbers.{phaseOf, configOf, stateNumbers, stateSlots, mar
 use Rattle.capi.specs.Slots.{put}
 use Rattle.capi.specs.Calls.{answerTo, lentTo, stackTo, stateTo, Called}
 use Rattle.capi.specs.Hosts.{Holds}
+use Rattle.capi.proofs.Rounds.{holds as slots-hold}
 use Rattle.arrivals.specs.Whole.{Stands, Whole, lengthened, lengthenedStep}
 use Rattle.arrivals.specs.Hosts.{withLength}
 use Rattle.arrivals.proofs.Arrivals.{a-call-on-the-bytes-so-far-is-the-call-on-the-whole-document}
@@ -37,10 +37,9 @@ tested n false true v x r e = let z : _≡_ {A = ℕ} 0 1 = cc in absurd (omega 
 tested n false false true x r e = let z : _≡_ {A = ℕ} 0 1 = cc in absurd (omega arith)
 tested n false false false x r e = let f : x ≡ r = cc in ap (λ (y : Reader). Held.Reader (lengthened n y)) f
 
+-- fewer slots hold none
 short : {A : Type 0} (state : List ℕ) (r : Reader) → length state < stateSlots → Holds state r → A
-unfolding heldOf
-short state r l e = let f : Held.Nothing ≡ Held.Reader r = sym (rw (lt-ltb (length state) stateSlots l)) ∙ e in
-    let z : _≡_ {A = ℕ} 0 1 = cc in absurd (omega arith)
+short state r l e = absurd (omega (arith, slots-hold state r e .0))
 
 -- THEOREM: slots that hold a reader hold it over a document of n bytes, once the slot of the length has that number
 pub with-its-length-set-a-state-holds-the-reader-lengthened : (n : ℕ) (state : List ℕ) (r : Reader) → Holds state r → Holds (withLength n state) (lengthened n r)
@@ -73,12 +72,6 @@ put-length n was (a ∷ b ∷ c ∷ []) r l = absurd (omega arith)
 put-length n was (a ∷ b ∷ c ∷ d ∷ rest) r l =
     rw (le-ltb (length (a ∷ b ∷ c ∷ d ∷ rest)) stateSlots l)
 
-holds-room : (state : List ℕ) (r : Reader) → Holds state r → stateSlots ≤ length state
-holds-room state r e = elim (decLt (length state) stateSlots) [
-  | yes l ↦ short state r l e
-  | no l ↦ omega arith
-]
-
 mark-kept : (n : ℕ) (state : List ℕ) → markSlot (withLength n state) ≡ markSlot state
 mark-kept n state = getD-set-other state 3 5 n 0 (λ e. omega arith)
 
@@ -100,7 +93,7 @@ module _ (doc more stack state answer : List ℕ) (r : Reader) (holds : Holds st
         ap (λ (s : Step). s .answer) e,
         ap (λ (s : Step). written stack (r .depth .0) (s .answer)) e,
         ap₂ (λ (was : ℕ) (s : Step). put (withLength n state) (stateNumbers was (s .reader))) (mark-kept n state) e
-            ∙ put-length n (markSlot state) state (step doc stack r .reader) (holds-room state r holds),
+            ∙ put-length n (markSlot state) state (step doc stack r .reader) (slots-hold state r holds .0),
       )
 
   lent-to : Lent (lentTo state answer) (lentTo (withLength n state) answer)

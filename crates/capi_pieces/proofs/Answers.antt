@@ -6,7 +6,6 @@ use native.Mathlib.Omega.{arith}
 use native.Mathlib.Decide.{decLt}
 use lib.ListN.{length, drop, set}
 use lib.Seq.{sets-eq}
-use lib.Dec.{ltb}
 use borrow.Author.Needs.{needs}
 use borrow.Author.Tests.{lt-ltb}
 use Rattle.ground.proofs.Choices.{choices, by-case, pick-lt, pick-nlt}
@@ -15,12 +14,11 @@ use Rattle.parser.specs.declared.marks.Marks.{Marks}
 use Rattle.parser.specs.Marks.{seeing}
 use Rattle.pieces.specs.declared.scan.State.{State}
 use Rattle.pieces.specs.declared.scan.Scan.{Scan}
-use Rattle.pieces.specs.declared.scan.Told.{Told}
 use Rattle.pieces.specs.declared.scan.Fed.{Fed as Answer}
 use Rattle.pieces.specs.Fed.{fed, toldNumber}
 use Rattle.capi_pieces.specs.declared.slots.Held.{Held}
 use Rattle.capi_pieces.specs.Numbers.{scanSlots, marksIn, numbers, numbersOf, stateNumber, heldOf, begunOf}
-use Rattle.capi_pieces.specs.Scans.{byHeld, stored, Begun, Fed}
+use Rattle.capi_pieces.specs.Scans.{badNumber, byHeld, stored, Begun, Fed}
 
 -- the case of the code's own match
 pub marks-case : (x : Marks) (s t : State) → s ≡ t → x ≡ marksIn t → x ≡ marksIn s
@@ -54,33 +52,33 @@ pub ruleset puts = (needs, slots, four-put, stored-closed, stored-open, marks-ca
 -- ---- what is told
 
 module _ (state : ℕ) (xs : List ℕ) where
-  pub begun-short : length xs < scanSlots → Begun state xs 17 xs
+  pub begun-short : length xs < scanSlots → Begun state xs badNumber xs
   begun-short l = record { said = pick-lt _ _ _ _ _ l refl; kept = pick-lt _ _ _ _ _ l refl }
 
   module _ (l : scanSlots ≤ length xs) (h : Held) (e : h ≡ begunOf state) where
-    pub begun-none : h ≡ Held.Nothing → Begun state xs 17 xs
+    pub begun-none : h ≡ Held.Nothing → Begun state xs badNumber xs
     begun-none f = record {
-      said = pick-nlt _ _ _ _ _ l (ap (λ (x : Held). byHeld x (λ s. 0) 17) (sym f ∙ e));
+      said = pick-nlt _ _ _ _ _ l (ap (λ (x : Held). byHeld x (λ s. 0) badNumber) (sym f ∙ e));
       kept = pick-nlt _ _ _ _ _ l (ap (λ (x : Held). byHeld x (λ s. stored s xs) xs) (sym f ∙ e));
     }
 
     pub begun-scan : (scan : Scan) (ys : List ℕ) → h ≡ Held.Scan scan → ys ≡ numbersOf scan ++ drop scanSlots xs → Begun state xs 0 ys
     begun-scan scan ys f g = record {
-      said = pick-nlt _ _ _ _ _ l (ap (λ (x : Held). byHeld x (λ s. 0) 17) (sym f ∙ e));
+      said = pick-nlt _ _ _ _ _ l (ap (λ (x : Held). byHeld x (λ s. 0) badNumber) (sym f ∙ e));
       kept = pick-nlt _ _ _ _ _ l (g ∙ ap (λ (x : Held). byHeld x (λ s. stored s xs) xs) (sym f ∙ e));
     }
 
 module _ (piece xs : List ℕ) (h : Held) (e : h ≡ heldOf xs) where
-  pub fed-none : h ≡ Held.Nothing → Fed piece xs 17 xs
+  pub fed-none : h ≡ Held.Nothing → Fed piece xs badNumber xs
   fed-none f = record {
-    said = ap (λ (x : Held). byHeld x (λ s. toldNumber (fed s piece .told)) 17) (sym f ∙ e);
+    said = ap (λ (x : Held). byHeld x (λ s. toldNumber (fed s piece .told)) badNumber) (sym f ∙ e);
     kept = ap (λ (x : Held). byHeld x (λ s. stored (fed s piece .scan) xs) xs) (sym f ∙ e);
   }
 
   pub fed-scan : (scan : Scan) (answer : Answer) (number : ℕ) (ys : List ℕ) → h ≡ Held.Scan scan → answer ≡ fed scan piece
       → number ≡ toldNumber (answer .told) → ys ≡ numbersOf (answer .scan) ++ drop scanSlots xs → Fed piece xs number ys
   fed-scan scan answer number ys f a n g = record {
-    said = n ∙ ap (λ (x : Answer). toldNumber (x .told)) a ∙ ap (λ (x : Held). byHeld x (λ s. toldNumber (fed s piece .told)) 17) (sym f ∙ e);
+    said = n ∙ ap (λ (x : Answer). toldNumber (x .told)) a ∙ ap (λ (x : Held). byHeld x (λ s. toldNumber (fed s piece .told)) badNumber) (sym f ∙ e);
     kept = g ∙ ap (λ (x : Answer). stored (x .scan) xs) a ∙ ap (λ (x : Held). byHeld x (λ s. stored (fed s piece .scan) xs) xs) (sym f ∙ e);
   }
 

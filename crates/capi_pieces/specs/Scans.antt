@@ -5,6 +5,8 @@ use mathlib.Core.List.{List, [], _∷_, _++_}
 use lib.ListN.{length, drop}
 use lib.Dec.{ltb}
 use Rattle.ground.specs.Choose.{pick}
+use Rattle.state.specs.declared.answer.Error.{Error}
+use Rattle.state.specs.Values.{numberedOf}
 use Rattle.pieces.specs.declared.scan.Scan.{Scan}
 use Rattle.pieces.specs.Fed.{fed, toldNumber}
 use Rattle.pieces.specs.Pieces.{Fits}
@@ -17,18 +19,22 @@ module _ {A : Type 0} where
   byHeld (Held.Scan scan) f a = f scan
   byHeld Held.Nothing f a = a
 
+-- 17, "bad state"
+abbrev pub badNumber : ℕ
+badNumber = numberedOf Error.BadState .number
+
 -- a scan's numbers in the first slots
 abbrev pub stored : Scan → List ℕ → List ℕ
 stored scan slots = numbersOf scan ++ drop scanSlots slots
 
 -- 0, and a fresh scan; 17 where there are too few slots or no scan has that number, and nothing is written then
 pub record Begun (state : ℕ) (slots : List ℕ) (number : ℕ) (slots' : List ℕ) : Type 0 where
-  pub said : number ≡ pick (ltb (length slots) scanSlots) 17 (byHeld (begunOf state) (λ scan. 0) 17)
+  pub said : number ≡ pick (ltb (length slots) scanSlots) badNumber (byHeld (begunOf state) (λ scan. 0) badNumber)
   pub kept : slots' ≡ pick (ltb (length slots) scanSlots) slots (byHeld (begunOf state) (λ scan. stored scan slots) slots)
 
 -- 0 or the number of the refusal, and the scan after the call; 17 where the slots hold no scan, and nothing is written then
 pub record Fed (piece slots : List ℕ) (number : ℕ) (slots' : List ℕ) : Type 0 where
-  pub said : number ≡ byHeld (heldOf slots) (λ scan. toldNumber (fed scan piece .told)) 17
+  pub said : number ≡ byHeld (heldOf slots) (λ scan. toldNumber (fed scan piece .told)) badNumber
   pub kept : slots' ≡ byHeld (heldOf slots) (λ scan. stored (fed scan piece .scan) slots) slots
 
 -- ---- pieces that a host feeds one after the other, in slots that stay as the call before left them: the last number, and the slots

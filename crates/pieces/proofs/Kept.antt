@@ -1,19 +1,18 @@
 -- A byte takes a scan that feeding leads to to one that it leads to: so the next call does not refuse it. Assumes nothing.
 use Prim.Native.Nat.{ℕ, _+_, _-_, _≤_, _<_}
-use mathlib.Core.Path.{_≡_, refl, sym, ap, _∙_, subst}
-use mathlib.Core.Bool.{Bool, true, false}
+use mathlib.Core.Path.{_≡_, refl, sym, subst}
+use mathlib.Core.Bool.{Bool, true}
 use mathlib.Core.List.{List, [], _∷_}
 use native.Mathlib.Omega.{arith}
 use native.Mathlib.Decide.{decLt}
 use lib.ListN.{length}
 use lib.Dec.{eqb, leb, ltb}
-use borrow.Author.Tests.{eqb-true, eqb-false, eq-eqb, ne-eqb, leb-true, leb-false, le-leb, ltb-true, ltb-false, lt-ltb}
-use Rattle.ground.specs.Choose.{pick}
+use borrow.Author.Tests.{eqb-true, eqb-false, eq-eqb, ne-eqb, leb-true, le-leb, ltb-true, lt-ltb}
 use Rattle.ground.specs.Bytes.{amp, apos, bang, gt, hyphen, lt, openBracket, question, quot}
-use Rattle.ground.proofs.Choices.{both, clash, pick-cases}
+use Rattle.ground.proofs.Choices.{both, pick-cases}
 use Rattle.parser.specs.Machine.{Next, go, halt, Scan as Course, found, going, stand, feed}
 use Rattle.parser.specs.Element.{elementStep}
-use Rattle.parser.specs.First.{firstStep, oneOf, referenceEnds, textEnds}
+use Rattle.parser.specs.First.{oneOf, referenceEnds, textEnds}
 use Rattle.parser.specs.Marks.{marksStep, passing, seeing}
 use Rattle.parser.specs.declared.element.ElementState.{ElementState}
 use Rattle.parser.specs.declared.marks.Marks.{Marks}
@@ -21,7 +20,7 @@ use Rattle.parser.proofs.Machine.{feed-found}
 use Rattle.pieces.specs.declared.scan.Kind.{Kind}
 use Rattle.pieces.specs.declared.scan.State.{State}
 use Rattle.pieces.specs.Kinds.{markOf, needOf, openerOf, pieceStep, within}
-use Rattle.pieces.specs.Reached.{marksReached, quotesReached, stateReached}
+use Rattle.pieces.specs.Reached.{marksReached, stateReached}
 
 -- ---- any machine: what each byte keeps, all bytes keep
 
@@ -120,15 +119,16 @@ module _ (k : Kind) (taken : ℕ) (m : Marks) where
 
 -- ---- the machine of all scans
 
-abbrev pub Fits : ℕ → State → Type 0
-Fits n s = stateReached n s ≡ true
+-- so many bytes may leave this state
+abbrev pub MayStand : ℕ → State → Type 0
+MayStand n s = stateReached n s ≡ true
 
 some : (n : ℕ) → ltb 0 (n + 1) ≡ true
 some n = lt-ltb 0 (n + 1) (omega arith)
 
 -- in a scan of one kind
 abbrev KeptAs : {S : Type 0} → (S → State) → ℕ → Next S → Type 0
-KeptAs name n x = After Fits n (within name x)
+KeptAs name n x = After MayStand n (within name x)
 
 tag-kept : (n : ℕ) (q : ElementState) (b : ℕ) → KeptAs State.Tag n (elementStep q b)
 tag-kept n ElementState.Outside b =
@@ -143,22 +143,22 @@ marked-kept n k (go m) c = in-marks k (n + 1) m c
 marked-kept n k halt c = tt
 
 -- each byte keeps it
-step-kept : (n : ℕ) (s : State) (b : ℕ) → Fits n s → After Fits n (pieceStep s b)
+step-kept : (n : ℕ) (s : State) (b : ℕ) → MayStand n s → After MayStand n (pieceStep s b)
 step-kept n State.Start b e =
     let z = eqb-true n 0 e in
-    pick-cases (After Fits n) (eqb b lt) _ _ (λ f. eq-eqb (n + 1) 1 (omega arith))
-    (λ f. pick-cases (After Fits n) (eqb b amp) _ _ (λ g. some n) (λ g. refl))
+    pick-cases (After MayStand n) (eqb b lt) _ _ (λ f. eq-eqb (n + 1) 1 (omega arith))
+    (λ f. pick-cases (After MayStand n) (eqb b amp) _ _ (λ g. some n) (λ g. refl))
 step-kept n State.Opened b e =
     let z = eqb-true n 1 e in
-    pick-cases (After Fits n) (eqb b bang) _ _ (λ f. eq-eqb (n + 1) 2 (omega arith))
-    (λ f. pick-cases (After Fits n) (eqb b question) _ _
+    pick-cases (After MayStand n) (eqb b bang) _ _ (λ f. eq-eqb (n + 1) 2 (omega arith))
+    (λ f. pick-cases (After MayStand n) (eqb b question) _ _
     (λ g. in-marks Kind.Pi (n + 1) (seeing 1) (record { most = omega arith; room = omega arith; in-opener = λ l. absurd (omega arith) }))
     (λ g. tag-kept n ElementState.Outside b))
 step-kept n State.Bang b e =
     let z = eqb-true n 2 e in
-    pick-cases (After Fits n) (eqb b openBracket) _ _
+    pick-cases (After MayStand n) (eqb b openBracket) _ _
     (λ f. in-marks Kind.CData (n + 1) (seeing 0) (record { most = omega arith; room = omega arith; in-opener = λ l. absurd (omega arith) }))
-    (λ f. pick-cases (After Fits n) (eqb b hyphen) _ _
+    (λ f. pick-cases (After MayStand n) (eqb b hyphen) _ _
     (λ g. in-marks Kind.Comment (n + 1) (passing 1) (record { most = omega arith; room = omega arith; in-opener = λ l. omega arith }))
     (λ g. tt))
 step-kept n (State.Tag q) b e = tag-kept n q b
@@ -168,5 +168,5 @@ step-kept n State.Reference b e = pick-cases (KeptAs (λ u. State.Reference) n) 
 step-kept n State.Text b e = pick-cases (KeptAs (λ u. State.Text) n) (oneOf textEnds b) _ _ (λ f. tt) (λ f. refl)
 
 -- and so do all
-pub kept : (n : ℕ) (s : State) (bs : List ℕ) → Fits n s → Holds Fits (n + length bs) (feed pieceStep (going s) n bs)
-kept = feed-keeps Fits pieceStep step-kept
+pub kept : (n : ℕ) (s : State) (bs : List ℕ) → MayStand n s → Holds MayStand (n + length bs) (feed pieceStep (going s) n bs)
+kept = feed-keeps MayStand pieceStep step-kept

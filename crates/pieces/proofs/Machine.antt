@@ -5,7 +5,7 @@ use mathlib.Core.Path.{_≡_, refl, sym, ap, _∙_}
 use mathlib.Core.List.{List, [], _∷_, _++_}
 use mathlib.Core.Logic.{_⊎_, inl, inr, ⊎-elim}
 use native.Mathlib.Omega.{arith}
-use lib.ListN.{length, getD, drop, length-drop}
+use lib.ListN.{length, getD, drop}
 use Rattle.parser.specs.Machine.{Next, go, halt, Scan as Course, found, going, stand, tick, feed, scanAt}
 use Rattle.parser.proofs.Machine.{feed-found, feed-next}
 use Rattle.pieces.specs.Kinds.{within}

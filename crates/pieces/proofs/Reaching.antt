@@ -43,7 +43,7 @@ course-passes n s piece e h (found p) f = lt-ltb p longest (found-below n s piec
 course-passes n s piece e h (going t) f = reached-on n s piece e h t f
 
 -- a call keeps it
-fed-passes : (scan : Scan) (piece : List ℕ) → passes scan ≡ true → passes (fed scan piece .scan) ≡ true
+pub fed-passes : (scan : Scan) (piece : List ℕ) → passes scan ≡ true → passes (fed scan piece .scan) ≡ true
 fed-passes (Scan.Closed p) piece e = subst (λ (x : Fed). passes (x .scan) ≡ true) (sym (fed-closed p piece (ltb-true p longest e))) e
 fed-passes (Scan.Open n s) piece e = elim (decLt longest (n + length piece)) [
   | yes l ↦ subst (λ (x : Fed). passes (x .scan) ≡ true) (sym (fed-long n s piece e l)) e

@@ -1,6 +1,6 @@
 -- Text by its parts: what is found in the first bytes of a piece is found in the piece, and where nothing is, the others decide. Assumes nothing.
 use Prim.Native.Nat.{ℕ, _+_, _-_, _≤_, _<_}
-use mathlib.Core.Path.{_≡_, refl, sym, ap, _∙_, subst}
+use mathlib.Core.Path.{_≡_, sym, ap, _∙_, subst}
 use mathlib.Core.Bool.{Bool, true, false}
 use mathlib.Core.List.{List}
 use mathlib.Core.Logic.{⊎-elim}
@@ -8,10 +8,8 @@ use native.Mathlib.Omega.{arith}
 use native.Mathlib.Decide.{decLt}
 use lib.ListN.{length, getD}
 use lib.Dec.{eqb}
-use borrow.Author.Needs.{needs}
 use borrow.Author.Tests.{eqb-false}
 use Rattle.ground.specs.Bytes.{amp, lt}
-use Rattle.ground.specs.Least.{Least}
 use Rattle.ground.specs.Part.{part}
 use Rattle.ground.proofs.Choices.{choices, or-left, or-right}
 use Rattle.ground.proofs.Lists.{part-byte, part-length}

@@ -1,25 +1,28 @@
 -- What a reader of document 02 expects of input in pieces. Assumes nothing.
 use Prim.Native.Nat.{ℕ, _+_, _≤_, _<_}
 use mathlib.Core.Path.{_≡_, refl, sym, ap, ap₂, _∙_, subst}
-use mathlib.Core.Bool.{Bool, true, false}
+use mathlib.Core.Bool.{true, false}
 use mathlib.Core.Logic.{_↔_}
-use mathlib.Core.List.{List, [], _∷_, _++_}
+use mathlib.Core.List.{List, [], _∷_}
 use native.Mathlib.Omega.{arith}
 use native.Mathlib.Decide.{decLt}
-use lib.ListN.{length, length-append}
-use lib.Dec.{leb, ltb}
-use borrow.Author.Tests.{ltb-true}
+use lib.ListN.{length, getD}
+use lib.Dec.{ltb}
+use borrow.Author.Tests.{lt-leb, ltb-true}
+use Rattle.ground.specs.Bytes.{amp}
 use Rattle.ground.specs.Least.{Gives}
 use Rattle.ground.proofs.Choices.{clash}
+use Rattle.ground.proofs.Lists.{stands-in}
 use Rattle.parser.specs.Machine.{Scan as Course, found, going, feed}
 use Rattle.parser.specs.Element.{elementFound, TagEnd}
-use Rattle.parser.specs.First.{textFound, TextEnd}
-use Rattle.parser.specs.Marks.{marksFound, piFound, commentFound, cdataFound, MarkedEnd, PiEnd, CommentEnd, CDataEnd}
+use Rattle.parser.specs.First.{referenceFound, textFound, ReferenceEnd, TextEnd}
+use Rattle.parser.specs.Marks.{piFound, commentFound, cdataFound, PiEnd, CommentEnd, CDataEnd}
 use Rattle.parser.specs.declared.element.Found.{Found as TagFound}
 use Rattle.parser.specs.declared.first.Found.{Found as FirstFound}
 use Rattle.parser.specs.declared.marks.Found.{Found as MarksFound}
-use Rattle.parser.proofs.Words.{element-gives, pi-gives, comment-gives, cdata-gives, text-gives}
+use Rattle.parser.proofs.Words.{element-gives, pi-gives, comment-gives, cdata-gives, reference-gives, text-gives}
 use Rattle.state.specs.Limits.{longest}
+use Rattle.state.specs.Values.{numberedOf}
 use Rattle.state.specs.declared.answer.Error.{Error}
 use Rattle.pieces.specs.declared.scan.Kind.{Kind}
 use Rattle.pieces.specs.declared.scan.What.{What}
@@ -29,12 +32,11 @@ use Rattle.pieces.specs.declared.scan.Told.{Told}
 use Rattle.pieces.specs.declared.scan.Fed.{Fed}
 use Rattle.pieces.specs.Kinds.{pieceStep}
 use Rattle.pieces.specs.Reached.{reached}
-use Rattle.pieces.specs.Fed.{answerOf, fed, fresh, refused}
+use Rattle.pieces.specs.Fed.{answerOf, fed, fresh, refused, toldNumber}
 use Rattle.pieces.specs.Pieces.{joined, fedAll, Fits, tagFed, markedFed, firstFed, pieceFed, Reaches}
 use Rattle.pieces.proofs.Machine.{feed-bound}
-use Rattle.pieces.proofs.Goes.{reached-most}
 use Rattle.pieces.proofs.Calls.{fed-closed, fed-bad-place, fed-bad-state, fed-long, fed-open}
-use Rattle.pieces.proofs.Cutting.{any-cutting, by-test, found-below, two-pieces}
+use Rattle.pieces.proofs.Cutting.{any-cutting, by-test}
 use Rattle.pieces.proofs.Whole.{whole-piece, whole-tag, whole-marked, whole-text}
 use Rattle.pieces.proofs.Reaching.{passes, passes-reaches, reaches-passes}
 
@@ -82,15 +84,15 @@ module _ {A : Type 0} (at : ℕ → A) (tell : A → Told) (to : (p : ℕ) → t
     none = (λ n. g .none .0 (λ p d. n p (ap tell d ∙ to p)), λ w p d. g .none .1 w p (back f p d));
   })
 
-tag-back : (n : ℕ) (f : TagFound) (p : ℕ) → tagFed n f .told ≡ Told.At p → f ≡ TagFound.At p
+pub tag-back : (n : ℕ) (f : TagFound) (p : ℕ) → tagFed n f .told ≡ Told.At p → f ≡ TagFound.At p
 tag-back n (TagFound.At q) p e = ap TagFound.At (cc)
 tag-back n (TagFound.Open q) p e = let z : _≡_ {A = ℕ} 0 1 = cc in absurd (omega arith)
 
-marked-back : (k : Kind) (n : ℕ) (f : MarksFound) (p : ℕ) → markedFed k n f .told ≡ Told.At p → f ≡ MarksFound.At p
+pub marked-back : (k : Kind) (n : ℕ) (f : MarksFound) (p : ℕ) → markedFed k n f .told ≡ Told.At p → f ≡ MarksFound.At p
 marked-back k n (MarksFound.At q) p e = ap MarksFound.At (cc)
 marked-back k n (MarksFound.Open m) p e = let z : _≡_ {A = ℕ} 0 1 = cc in absurd (omega arith)
 
-first-back : (t : State) (n : ℕ) (f : FirstFound) (p : ℕ) → firstFed t n f .told ≡ Told.At p → f ≡ FirstFound.At p
+pub first-back : (t : State) (n : ℕ) (f : FirstFound) (p : ℕ) → firstFed t n f .told ≡ Told.At p → f ≡ FirstFound.At p
 first-back t n (FirstFound.At q) p e = ap FirstFound.At (cc)
 first-back t n FirstFound.End p e = let z : _≡_ {A = ℕ} 0 1 = cc in absurd (omega arith)
 
@@ -131,6 +133,22 @@ module _ (piece : List ℕ) (pieces : List (List ℕ)) (within : length (joined 
       gives-told FirstFound.At (λ (f : FirstFound). firstFed State.Text (length all) f .told) (λ p. refl) (first-back State.Text (length all))
       (textFound all 0) (TextEnd all 0) _ (ap (λ (x : Fed). x .told) (text-in-pieces piece pieces within)) (text-gives all 0)
 
+-- "the first of `;`, `&`, `<` after" its `&`, in bytes that begin with one
+pub a-reference-ends-at-its-end : (piece : List ℕ) (pieces : List (List ℕ)) → length (joined (piece ∷ pieces)) ≤ longest
+    → getD (joined (piece ∷ pieces)) 0 0 ≡ amp
+    → Gives Told.At (fedAll (fresh What.Piece) piece pieces .told) (ReferenceEnd (joined (piece ∷ pieces)) 0)
+a-reference-ends-at-its-end piece pieces within b =
+    gives-told FirstFound.At (λ (f : FirstFound). firstFed State.Reference (length all) f .told) (λ p. refl) (first-back State.Reference (length all))
+    (referenceFound all 0) (ReferenceEnd all 0) _
+    (ap (λ (x : Fed). x .told) (any-piece-in-pieces piece pieces within ∙ chosen))
+    (reference-gives all 0)
+  where
+    all : List ℕ
+    all = joined (piece ∷ pieces)
+
+    chosen : pieceFed all ≡ firstFed State.Reference (length all) (referenceFound all 0)
+    chosen = rw (lt-leb (length all) 0 (stands-in all 0 amp b (omega arith)), b)
+
 -- ---- one call, case by case
 
 -- what a call on a scan comes to: 17; the place again; 16; the place, found now; or none yet
@@ -170,7 +188,7 @@ module _ {A : Type 0} where
   open-refused : (e : Error) → Told.Open ≡ Told.Refused e → A
   open-refused e d = let z : _≡_ {A = ℕ} 0 1 = cc in absurd (omega arith)
 
-  found-open : (p : ℕ) → Told.Open ≡ Told.At p → A
+  pub found-open : (p : ℕ) → Told.Open ≡ Told.At p → A
   found-open p d = let z : _≡_ {A = ℕ} 0 1 = cc in absurd (omega arith)
 
   long-bad : Told.Refused Error.SliceTooLong ≡ Told.Refused Error.BadState → A
@@ -210,6 +228,27 @@ module _ (scan : Scan) (piece : List ℕ) where
       told _ (long n s e f l) d = clash (passes scan) e d
       told _ (finds n s p e f l m k) d = clash (passes scan) e d
       told _ (goes n s t e f g) d = clash (passes scan) e d
+
+  -- and by its number too. What has a number leaves the scan as it is.
+  pub the-number-17-is-for-no-other : toldNumber (fed scan piece .told) ≡ numberedOf Error.BadState .number → Reaches scan → ⊥
+  the-number-17-is-for-no-other d r = clash (passes scan) (reaches-passes scan r) (by (fed scan piece) (ways scan piece) d)
+    where
+      by : (x : Fed) → Ways scan piece x → toldNumber (x .told) ≡ numberedOf Error.BadState .number → passes scan ≡ false
+      by _ (bad e) d = e
+      by _ (closed p e f l) d = absurd (omega arith)
+      by _ (long n s e f l) d = absurd (omega arith)
+      by _ (finds n s p e f l m k) d = absurd (omega arith)
+      by _ (goes n s t e f g) d = absurd (omega arith)
+
+  pub what-has-a-number-leaves-the-scan : (toldNumber (fed scan piece .told) ≡ 0 → ⊥) → fed scan piece .scan ≡ scan
+  what-has-a-number-leaves-the-scan n = by (fed scan piece) (ways scan piece) n
+    where
+      by : (x : Fed) → Ways scan piece x → (toldNumber (x .told) ≡ 0 → ⊥) → x .scan ≡ scan
+      by _ (bad e) d = refl
+      by _ (closed p e f l) d = absurd (d refl)
+      by _ (long n s e f l) d = refl
+      by _ (finds n s p e f l m k) d = absurd (d refl)
+      by _ (goes n s t e f g) d = absurd (d refl)
 
 -- 16 for one that is open where the piece would pass the length limit, be the closer within it or not.
 pub sixteen-is-for-a-piece-that-would-pass-the-limit : (taken : ℕ) (state : State) (piece : List ℕ)

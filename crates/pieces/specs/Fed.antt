@@ -18,7 +18,7 @@ use Rattle.pieces.specs.declared.scan.Fed.{Fed}
 use Rattle.pieces.specs.Kinds.{openerOf, pieceStep}
 use Rattle.pieces.specs.Reached.{reached}
 
--- nothing was fed: "the first piece begins at the markup's `<`", outside quotes, with the whole opener yet to pass
+-- nothing was fed: a piece begins at its first byte, a tag outside quotes, a comment with its whole opener yet to pass
 abbrev pub begins : What → State
 begins What.Piece = State.Start
 begins What.Tag = State.Tag ElementState.Outside

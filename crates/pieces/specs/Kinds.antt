@@ -3,15 +3,18 @@ use Prim.Native.Nat.{ℕ}
 use lib.Dec.{eqb}
 use Rattle.ground.specs.Choose.{pick}
 use Rattle.ground.specs.Bytes.{amp, bang, closeBracket, hyphen, lt, openBracket, question}
-use Rattle.parser.specs.Machine.{Next, go, halt}
+use Rattle.parser.specs.Machine.{Next, go, halt, Scan as Course, found, going}
 use Rattle.parser.specs.Element.{elementStep}
 use Rattle.parser.specs.First.{firstStep, oneOf, referenceEnds, textEnds}
 use Rattle.parser.specs.Marks.{marksStep, passing, seeing}
 use Rattle.parser.specs.declared.element.ElementState.{ElementState}
+use Rattle.parser.specs.declared.element.Found.{Found as TagFound}
+use Rattle.parser.specs.declared.first.Found.{Found as FirstFound}
+use Rattle.parser.specs.declared.marks.Found.{Found as MarksFound}
 use Rattle.pieces.specs.declared.scan.Kind.{Kind}
 use Rattle.pieces.specs.declared.scan.State.{State}
 
--- "no byte of the opener `<!--`" is a mark of the closer; of the others none could be
+-- a comment ends "at offset 6 or more", so that the four bytes of `<!--` are no marks. The `?` of `<?` is one, and `<![CDATA[` has none
 abbrev pub openerOf : Kind → ℕ
 openerOf Kind.Pi = 0
 openerOf Kind.Comment = 4
@@ -48,3 +51,17 @@ pieceStep (State.Tag quotes) b = within State.Tag (elementStep quotes b)
 pieceStep (State.Marked kind marks) b = within (State.Marked kind) (marksStep (markOf kind) (needOf kind) marks b)
 pieceStep State.Reference b = within (λ u. State.Reference) (firstStep (oneOf referenceEnds) tt b)
 pieceStep State.Text b = within (λ u. State.Text) (firstStep (oneOf textEnds) tt b)
+
+-- ---- what the scans of `parser` answer, as where this machine stands
+
+abbrev pub tagCourse : TagFound → Course State
+tagCourse (TagFound.At place) = found place
+tagCourse (TagFound.Open quotes) = going (State.Tag quotes)
+
+abbrev pub markedCourse : Kind → MarksFound → Course State
+markedCourse kind (MarksFound.At place) = found place
+markedCourse kind (MarksFound.Open marks) = going (State.Marked kind marks)
+
+abbrev pub firstCourse : State → FirstFound → Course State
+firstCourse state (FirstFound.At place) = found place
+firstCourse state FirstFound.End = going state

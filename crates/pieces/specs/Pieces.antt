@@ -19,6 +19,7 @@ use Rattle.pieces.specs.declared.scan.What.{What}
 use Rattle.pieces.specs.declared.scan.State.{State}
 use Rattle.pieces.specs.declared.scan.Scan.{Scan}
 use Rattle.pieces.specs.declared.scan.Fed.{Fed}
+use Rattle.pieces.specs.Kinds.{tagCourse, markedCourse, firstCourse}
 use Rattle.pieces.specs.Fed.{answerOf, fed, fresh}
 
 -- the uncut bytes
@@ -39,16 +40,13 @@ Fits (Scan.Open taken state) bytes = taken + length bytes ≤ longest
 -- ---- what the scans of `parser` say of the uncut bytes, as what is answered when so many bytes were fed
 
 abbrev pub tagFed : ℕ → TagFound → Fed
-tagFed taken (TagFound.At place) = answerOf taken (found place)
-tagFed taken (TagFound.Open quotes) = answerOf taken (going (State.Tag quotes))
+tagFed taken f = answerOf taken (tagCourse f)
 
 abbrev pub markedFed : Kind → ℕ → MarksFound → Fed
-markedFed kind taken (MarksFound.At place) = answerOf taken (found place)
-markedFed kind taken (MarksFound.Open marks) = answerOf taken (going (State.Marked kind marks))
+markedFed kind taken f = answerOf taken (markedCourse kind f)
 
 abbrev pub firstFed : State → ℕ → FirstFound → Fed
-firstFed state taken (FirstFound.At place) = answerOf taken (found place)
-firstFed state taken FirstFound.End = answerOf taken (going state)
+firstFed state taken f = answerOf taken (firstCourse state f)
 
 -- "`!`: the third byte chooses: `[` CDATA, `-` comment", any other is refused there
 abbrev pub bangFed : List ℕ → Fed

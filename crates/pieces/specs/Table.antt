@@ -48,6 +48,8 @@ table =
     ∷ (row (fresh What.Tag) (60 ∷ 97 ∷ 62 ∷ []) ((120 ∷ 62 ∷ []) ∷ []) (closedAt 2))
     -- `<a`, ` '`
     ∷ (row (fresh What.Tag) (60 ∷ 97 ∷ []) ((32 ∷ 39 ∷ []) ∷ []) (openIn 4 (State.Tag ElementState.SingleQ)))
+    -- `>`, ``
+    ∷ (row (fresh What.Tag) (62 ∷ []) (([]) ∷ []) (closedAt 0))
     -- `<?a?`, ``, `>`
     ∷ (row (fresh (What.Marked Kind.Pi)) (60 ∷ 63 ∷ 97 ∷ 63 ∷ []) (([]) ∷ (62 ∷ []) ∷ []) (closedAt 4))
     -- `<`, `?>`
@@ -117,6 +119,11 @@ table =
     ∷ (row (Scan.Open longest State.Text) [] [] (openIn longest State.Text))
     -- the last byte that fits
     ∷ (row (Scan.Open 268435455 State.Text) (60 ∷ []) [] (closedAt 268435455))
+    -- two bytes of which the first would be found and fit: 16 all the same; then one of them alone
+    ∷ (row (Scan.Open 268435455 State.Text) (60 ∷ 97 ∷ []) [] (refused (Scan.Open 268435455 State.Text) Error.SliceTooLong))
+    ∷ (row (Scan.Open 268435455 State.Text) (60 ∷ 60 ∷ []) ((60 ∷ []) ∷ []) (closedAt 268435455))
+    -- a place that was found, and pieces that would pass the limit, or are empty
+    ∷ (row (Scan.Closed 268435455) (97 ∷ 97 ∷ []) ([] ∷ []) (closedAt 268435455))
     -- scans that no feeding leads to
     ∷ (row (Scan.Closed longest) (97 ∷ []) [] (refused (Scan.Closed longest) Error.BadState))
     ∷ (row (Scan.Open 268435457 State.Text) [] [] (refused (Scan.Open 268435457 State.Text) Error.BadState))

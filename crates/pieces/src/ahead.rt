@@ -22,21 +22,21 @@ pub enum Ahead {
     Open(State),
 }
 
-// From `from` on, in this state.
-pub fn onward(piece: &[u8], from: usize, state: State) -> Ahead
-    ensures { λ r. ⌜ r ≡ aheadOf (scanAt pieceStep state (now (piece .entry)) from) ⌝ }
+// From the first byte on, in this state.
+pub fn onward(piece: &[u8], state: State) -> Ahead
+    ensures { λ r. ⌜ r ≡ aheadOf (scanAt pieceStep state (now (piece .entry)) 0) ⌝ }
 {
     match state {
-        State::Start => start(piece, from),
-        State::Opened => opened(piece, from),
-        State::Bang => bang(piece, from),
-        State::Tag(quotes) => in_tag(tag_end(piece, from, quotes)),
+        State::Start => start(piece, 0),
+        State::Opened => opened(piece, 0),
+        State::Bang => bang(piece, 0),
+        State::Tag(quotes) => in_tag(tag_end(piece, 0, quotes)),
         State::Marked(kind, marks) => in_marked(
             kind,
-            marked_end(piece, from, marks, kind.mark(), kind.need()),
+            marked_end(piece, 0, marks, kind.mark(), kind.need()),
         ),
-        State::Reference => reference(piece, from),
-        State::Text => in_first(State::Text, text_on(piece, from)),
+        State::Reference => reference(piece, 0),
+        State::Text => in_first(State::Text, text_on(piece, 0)),
     }
 }
 

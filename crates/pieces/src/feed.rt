@@ -6,14 +6,13 @@ use crate::scan::Fed;
 use crate::scan::Scan;
 use crate::scan::State;
 use crate::scan::Told;
-use crate::scan::refused;
 use state::answer::Error;
 use state::limits::LONGEST;
 ghost use mathlib.Core.Path.{_≡_};
 ghost use Prim.Native.Nat.{_+_, _≤_};
 ghost use lib.ListN.{length};
 ghost use Rattle.state.specs.Limits.{longest};
-ghost use Rattle.pieces.specs.Fed.{fed, fedOn};
+ghost use Rattle.pieces.specs.Fed.{fed, fedOn, refused as refusedOf};
 
 // 17 where no feeding leads to such a scan; then the place that was found, whatever is fed; then 16 where the bytes would pass the longest document. A refusal
 // leaves the scan as it is.
@@ -50,7 +49,7 @@ fn go_on(taken: usize, state: State, piece: &[u8]) -> Fed
     requires { ⌜ taken + length (now piece) ≤ longest ⌝ }
     ensures { λ r. ⌜ r ≡ fedOn taken state (now (piece .entry)) ⌝ }
 {
-    match onward(piece, 0, state) {
+    match onward(piece, state) {
         Ahead::At(place) => Fed {
             scan: Scan::Closed(taken + place),
             told: Told::At(taken + place),
@@ -62,5 +61,15 @@ fn go_on(taken: usize, state: State, piece: &[u8]) -> Fed
             },
             told: Told::Open,
         },
+    }
+}
+
+// A refusal, which leaves the scan as it is.
+fn refused(scan: Scan, error: Error) -> Fed
+    ensures { λ r. ⌜ r ≡ refusedOf scan error ⌝ }
+{
+    Fed {
+        scan,
+        told: Told::Refused(error),
     }
 }

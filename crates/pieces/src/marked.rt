@@ -10,13 +10,15 @@ ghost use Rattle.parser.specs.Marks.{marksAnswer, marksStep, seeing};
 pub fn marked_end(piece: &[u8], from: usize, marks: Marks, mark: u8, need: usize) -> Found
     ensures { λ r. ⌜ r ≡ marksAnswer (scanAt (marksStep mark need) marks (now (piece .entry)) from) ⌝ }
 {
+    let left = marks.left;
+    let seen = marks.seen;
     if piece.len() <= from {
-        return Found::Open(marks);
+        return Found::Open(Marks { left, seen });
     }
-    if marks.left == 0 {
-        seen_end(piece, from, marks.seen, mark, need)
+    if left == 0 {
+        seen_end(piece, from, seen, mark, need)
     } else {
-        marks_end(piece, from, marks.left, mark, need)
+        marks_end(piece, from, left, mark, need)
     }
 }
 

@@ -4,7 +4,7 @@ use parser::marks::Marks;
 use state::answer::Error;
 ghost use mathlib.Core.Path.{_≡_};
 ghost use Rattle.pieces.specs.Kinds.{openerOf, markOf, needOf};
-ghost use Rattle.pieces.specs.Fed.{toldNumber, begins as beginsOf, fresh as freshOf, refused as refusedOf};
+ghost use Rattle.pieces.specs.Fed.{toldNumber, begins as beginsOf, fresh as freshOf};
 
 // What ends with marks just before its `>`.
 pub enum Kind {
@@ -131,15 +131,5 @@ fn begins(what: What) -> State
             },
         ),
         What::Text => State::Text,
-    }
-}
-
-// A refusal, which leaves the scan as it is.
-pub fn refused(scan: Scan, error: Error) -> Fed
-    ensures { λ r. ⌜ r ≡ refusedOf scan error ⌝ }
-{
-    Fed {
-        scan,
-        told: Told::Refused(error),
     }
 }

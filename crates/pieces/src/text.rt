@@ -1,4 +1,5 @@
 // The scan of text over one piece of many: by blocks, and what stands behind the last of them by one test.
+use blocks::BLOCK;
 use blocks::neither;
 use ground::part;
 use parser::first::Found;
@@ -21,11 +22,15 @@ pub fn text_on(piece: &[u8], from: usize) -> Found
     }
 }
 
-// How many of so many bytes stand behind the blocks that `text_end` takes at once.
+// How many of so many bytes stand behind the blocks that `text_end` takes at once: one, and then two at a time.
 fn behind(n: usize) -> usize
     ensures { λ r. ⌜ r ≤ n ⌝ }
 {
-    if n < 64 { n } else { (n - 64) % 128 }
+    if n < BLOCK {
+        n
+    } else {
+        (n - BLOCK) % (2 * BLOCK)
+    }
 }
 
 // The same for the last bytes.
