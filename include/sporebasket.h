@@ -309,8 +309,8 @@ size_t sporebasket_scan(size_t state, size_t *scan, size_t scan_slots);
 
 /* Goes on with a scan over the next piece of what it looks through, and writes the scan. The first piece of a tag, a processing instruction, a comment or a CDATA section begins at its `<`, that of a PIECE
  * with the first byte of whatever comes; a piece may end anywhere, and be empty. 0: the piece was taken. If the scan is now CLOSED, COUNT is the place of the byte found, and what stands behind it in the
- * piece was not looked at; else it has to be fed on. After that pieces of any length change nothing, and are answered by 0. For any cutting of the same bytes into pieces, empty ones included, answer, place and
- * slots at the end are those for the bytes in one piece. What is found:
+ * piece was not looked at; else it has to be fed on. Once it is CLOSED pieces of any length change nothing, and are answered by 0. For any cutting of the same bytes into pieces, empty ones included, answer, place and
+ * slots at the end are those for the bytes in one piece, as long as they are SPOREBASKET_LONGEST together at most. What is found:
  * - TAG: the first `>` outside quotes.
  * - PI: the first `>` with a `?` right before it; of `<?>` it is the `>`.
  * - COMMENT: the first `>` with `--` right before it, none of which belongs to the opener: `<!-->` and `<!--->` are not closed by it.
@@ -319,13 +319,13 @@ size_t sporebasket_scan(size_t state, size_t *scan, size_t scan_slots);
  * - REFERENCE: the first of `;`, `&` and `<` behind its `&`; the last two do not belong to it.
  * From PIECE on the scan finds out by itself which of these it is, as stands above, and is CLOSED by the byte that a call of sporebasket_read_event goes by to end its piece, or to refuse it. So a host that
  * gets a document by and by makes a call, over the bytes that have come and with LENGTH set to how many these are, as soon as a scan of a PIECE is CLOSED that began at POSITION: behind a byte order mark there
- * in INIT (while less than the mark has come, and is its start, it waits), and behind white space that SPOREBASKET_TRIM_TEXT_START skips. In INSIDE_EMPTY and DONE a call needs no byte, and where no more bytes
+ * in INIT (it waits while what has come is only the beginning of a mark), and behind white space that SPOREBASKET_TRIM_TEXT_START skips. In INSIDE_EMPTY and DONE a call needs no byte, and where no more bytes
  * come all calls are made. They are answered as over the whole document. `hosts/c/chunks.c` is a whole program that does so.
  * 17, before all else, with the scan left as it was, exactly where one of these is so:
  * - There are fewer than SPOREBASKET_SCAN_SLOTS slots, or STATE is none of those above.
  * - COUNT is more than SPOREBASKET_LONGEST, or, in CLOSED, as much.
  * - COUNT does not fit the state: it is not 0 in PIECE, not 1 in OPENED, not 2 in BANG, or 0 in SINGLE_QUOTED, DOUBLE_QUOTED or REFERENCE.
- * - LEFT and SEEN do not fit: with LEFT 0, SEEN is more than 1 in PI, 2 in COMMENT and CDATA or 0 elsewhere, or the bytes of the opener that count (4 in COMMENT, else 0) and SEEN are together more than
+ * - LEFT and SEEN do not fit: with LEFT 0, SEEN is more than 1 in PI, 2 in COMMENT and CDATA or 0 elsewhere, or the bytes of the opener that are no marks (4 in COMMENT, else 0) and SEEN are together more than
  *   COUNT; or LEFT is not 0, and the state is not COMMENT, SEEN is not 0, or COUNT and LEFT are together not 4.
  * So it never comes to who keeps a scan as it was left. 16, with the scan left as it was: it is open, and COUNT and `length` are together more than SPOREBASKET_LONGEST, even if the byte would be found
  * before that. */

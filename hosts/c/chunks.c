@@ -105,8 +105,9 @@ static int is_due(struct fed *fed, const size_t *state)
 static int is_late(const size_t *answer, size_t length)
 {
     size_t number = answer[SPOREBASKET_ANSWER_NUMBER];
+    size_t unread = number == SPOREBASKET_UNCLOSED_TAG ? 1 : number == SPOREBASKET_INVALID_BANG_MARKUP ? 2 : 0;
 
-    return number != SPOREBASKET_UNCLOSED_TAG && number != SPOREBASKET_INVALID_BANG_MARKUP && answer[SPOREBASKET_ANSWER_PIECE_TO] < length;
+    return answer[SPOREBASKET_ANSWER_PIECE_TO] + unread < length;
 }
 
 /* 0 if all is listed, 1 if an answer was late, 2 if the document can't be read or there is no memory. */

@@ -60,8 +60,12 @@ fn list(mut line: impl Read, size: usize, asked: Asked, out: &mut impl Write) ->
             }
         };
         // what is left for the end goes up to it, but for a `<` or `<!` alone, which is not read
-        let unread = answer.is_err_and(|error| matches!(error.number(), Some(1 | 8)));
-        if at_end && !unread && piece.end < feeder.document().len() {
+        let unread = match answer.err().and_then(|error| error.number()) {
+            Some(1) => 1,
+            Some(8) => 2,
+            _ => 0,
+        };
+        if at_end && piece.end + unread < feeder.document().len() {
             return Ok(Some(piece.end));
         }
         at_end = false;

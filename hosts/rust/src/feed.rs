@@ -1,7 +1,7 @@
 //! Input that comes in pieces, as over a slow line: scans that are fed piece by piece, and a reader of a document whose bytes come by and by.
 //!
 //! A [`Scan`] looks for the end of markup or text, and tells its place, counted from the first byte of the first piece. A [`Feeder`] gives each event of a document as soon as its bytes have come. For any
-//! cutting, empty pieces included, both answer as for the bytes in one piece. Of a scan that is proved, and of a call on the bytes so far that its piece is whole in (docs/PROMISES.md, "pieces" and "arrivals").
+//! cutting, empty pieces included, both answer as for the bytes in one piece, of at most [`LONGEST`] bytes together. Of a scan that is proved, and of a call on the bytes so far that its piece is whole in (docs/PROMISES.md, "pieces" and "arrivals").
 //!
 //! ```
 //! use sporebasket::events::Event;
@@ -334,7 +334,7 @@ impl Feeder {
         if self.finished || matches!(self.run.phase(), Phase::InsideEmpty | Phase::Done) {
             return true;
         }
-        let trim = self.config().trim_text_start;
+        let trim = Look::trims(&self.run);
         if self.look.as_ref().is_none_or(|look| look.trim != trim) {
             self.look = Look::begin(&self.bytes, &self.run);
         }
@@ -421,10 +421,15 @@ impl Look {
             }
         }
         Some(Look {
-            trim: run.config().trim_text_start,
+            trim: Look::trims(run),
             at,
             scan: Scan::piece(),
         })
+    }
+
+    /// Whether the call skips white space before its piece: where text may begin.
+    fn trims(run: &Run) -> bool {
+        run.config().trim_text_start && matches!(run.phase(), Phase::Init | Phase::InsideText)
     }
 
     /// Looks at the bytes that have come since, and tells whether the piece is whole.

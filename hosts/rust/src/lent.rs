@@ -424,7 +424,7 @@ pub fn scan(state: usize, scan: &mut [usize]) -> usize {
 /// Goes on with a scan over the next piece of what it looks through, and writes the scan. Its first slot is then 0 if the byte was found that it looks for, and the second that byte's place, counted from the
 /// first byte of the first piece; else the second is how many bytes were taken. After the byte was found pieces of any length change nothing. [`feed`](crate::feed) says what is looked for.
 ///
-/// For any cutting of the same bytes into pieces, empty ones included, the slots at the end are those for the bytes in one piece: that is proved (docs/PROMISES.md).
+/// For any cutting of the same bytes, at most [`LONGEST`] of them, into pieces, empty ones included, the slots at the end are those for the bytes in one piece: that is proved (docs/PROMISES.md).
 ///
 /// 17, before all else: fewer than [`SCAN_SLOTS`] slots, or numbers that no feeding leads to; the header has the rule. 16: the byte was not found, and the bytes with this piece are more than [`LONGEST`]. Both
 /// leave the scan as it was.
