@@ -37,8 +37,8 @@ module _ {S T : Type 0} where
   within name (go s) = go (name s)
   within name halt = halt
 
--- The first byte tells what a piece is: "At `<` go to markup, at `&` to reference. Else" text. "Markup looks at the byte after `<`": `!`, `?` (a mark already), or
--- a tag. "`!`: the third byte chooses: `[` CDATA, `-` comment", of which one byte of the opener is left; any other is refused there, and stops the scan.
+-- The first byte tells what a piece is: "At `<` go to markup, at `&` to reference, with no event. Else" text. "Markup looks at the byte after `<`": `!`, `?`
+-- (a mark already), or a tag. "`!`: the third byte chooses: `[` CDATA, `-` comment", of which one byte of the opener is left; any other is refused there, and stops the scan.
 abbrev pub pieceStep : State → ℕ → Next State
 pieceStep State.Start b = pick (eqb b lt) (go State.Opened) (pick (eqb b amp) (go State.Reference) (go State.Text))
 pieceStep State.Opened b =

@@ -62,7 +62,7 @@ markupFed bytes =
     (pick (eqb (getD bytes 1 0) bang) (bangFed bytes)
     (pick (eqb (getD bytes 1 0) question) (markedFed Kind.Pi (length bytes) (piFound bytes 0)) (tagFed (length bytes) (elementFound bytes 0))))
 
--- "At `<` go to markup, at `&` to reference. Else" text
+-- "At `<` go to markup, at `&` to reference, with no event. Else" text
 abbrev pub pieceFed : List ℕ → Fed
 pieceFed bytes =
     pick (leb (length bytes) 0) (answerOf 0 (going State.Start))
