@@ -155,7 +155,7 @@ module _ (doc : List ℕ) (w : World) (deep : w .reader .depth .0 ≤ capacity (
 -- ---- what holds between two calls
 
 -- each name is start ≤ end ≤ position
-abbrev Behind : ℕ → List Span → Type 0
+abbrev pub Behind : ℕ → List Span → Type 0
 Behind p [] = Unit {0}
 Behind p (n ∷ ns) = (n .from ≤ n .to) × (n .to ≤ p) × Behind p ns
 

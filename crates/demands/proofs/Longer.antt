@@ -78,7 +78,7 @@ module _ (r : Reader) (a b : Depth) (room : r .depth .0 < a .0) (also : r .depth
 
 -- ---- a longer stack has the same names below the depth, and as much room or more
 
-capacity-grows : (m n : ℕ) → m ≤ n → capacity m ≤ capacity n
+pub capacity-grows : (m n : ℕ) → m ≤ n → capacity m ≤ capacity n
 unfolding capacity
 capacity-grows m n h =
     pick-cases (λ (k : ℕ). k ≤ capacity n) (ltb (m / slots) most) _ _

@@ -1,2 +1,6 @@
-pub mod Records
+pub mod Calls
 pub mod Lists
+pub mod Records
+pub mod Theorems
+pub mod Way
+pub mod Worked

@@ -40,13 +40,18 @@ module _ (s : List ℕ) (p : Position) (n : Depth) (room : ℕ) where
       let back : i + 1 - 1 ≡ i = omega arith in
       one-given s p n (depthOf (i + 1)) (leb-true (n .0) (capacity (length s)) (t .0)) (omega arith) (omega arith) (rw back o) ∙ ap (λ (m : ℕ). Given.Row (rowAt s m)) back)
 
-  -- and there is room for it
-  pub plan-fits : countOf (planOf s p n room) ≤ room
+  -- there is room for it, and a name
+  pub plan-fits : countOf (planOf s p n room) ≤ min (n .0) room
   unfolding planOf
   plan-fits =
-      pick-cases (λ (f : Filled). countOf f ≤ room) (allOf (fits s p n ∷ allInOrder s p (min (n .0) room) ∷ [])) (Filled.Rows (min (n .0) room)) Filled.BadState (λ _. omega arith) (λ _. omega arith)
+      pick-cases (λ (f : Filled). countOf f ≤ min (n .0) room) (allOf (fits s p n ∷ allInOrder s p (min (n .0) room) ∷ [])) (Filled.Rows (min (n .0) room)) Filled.BadState (λ _. omega arith) (λ _. omega arith)
 
 -- ---- one record more
+
+pub rows-length : (stack : List ℕ) (d n : ℕ) → length (rowsFrom stack d n) ≡ n
+unfolding rowsFrom
+rows-length stack d zero = refl
+rows-length stack d (suc n) = ap suc (rows-length stack (d + 1) n)
 
 module _ (s : List ℕ) where
   more : (d i : ℕ) (list : List Row) → i < length list → set (rowsFrom s d i ++ drop i list) i (rowAt s (d + i)) ≡ rowsFrom s d (suc i) ++ drop (suc i) list

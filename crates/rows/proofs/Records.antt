@@ -104,7 +104,7 @@ pub ruleset ones = (needs, one-starts, one-fits, one-next-fits, one-ends, one-ov
 
 -- ---- what is known of a record that is given
 
-not-given : (row : Row) → Given.Row row ≡ Given.BadState → ⊥
+pub not-given : (row : Row) → Given.Row row ≡ Given.BadState → ⊥
 not-given row e = let z : _≡_ {A = ℕ} 0 1 = cc in omega arith
 
 passes : (t : Bool) (row row' : Row) → pick t (Given.Row row) Given.BadState ≡ Given.Row row' → (t ≡ true) × (row ≡ row')

@@ -1,2 +1,4 @@
 pub mod Answers
 pub mod Rows
+pub mod Table
+pub mod Words

@@ -252,7 +252,7 @@ module _ {M : Type 1} (𝓤 : URA M) (H : Heap 𝓤) (A : Atoms 𝓤) (W : Kit �
 
   -- ---- the exit
   as-long : length (zs k) ≡ length ys
-  as-long = filled-length (s .now) k ys (plan-fits (s .now) p n (length ys))
+  as-long = filled-length (s .now) k ys (omega (arith, plan-fits (s .now) p n (length ys)))
 
   exits : Is F.the-row f (fv ∷ []) → ent 𝓤 (⋆ 𝓤 H A (‵ (fobs γ (codedHoleys R .code (heres R (zs k)))) ∷ ‵ (fbor κ₁ (Held R (length (zs k)) b o γ)) ∷ ‵ (flft κ₁ q₁) ∷ Tok ∷ ‵ OwnStack ∷ [])) (Post fv)
   exits is =
