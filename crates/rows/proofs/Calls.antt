@@ -49,7 +49,7 @@ module _ (Kept : Promise) (advances : Advances Kept) (doc stack : List ℕ) (c :
 -- ---- a longer stack
 
 module _ (stack more : List ℕ) (names : Depth) (deep : names .0 ≤ capacity (length stack)) where
-  still-deep : names .0 ≤ capacity (length (stack ++ more))
+  pub still-deep : names .0 ≤ capacity (length (stack ++ more))
   still-deep = omega (arith, length-append stack more, capacity-grows (length stack) (length (stack ++ more)) (omega (arith, length-append stack more)))
 
   same-entry : (d : ℕ) → d < names .0 → entry stack d ≡ entry (stack ++ more) d
@@ -57,41 +57,50 @@ module _ (stack more : List ℕ) (names : Depth) (deep : names .0 ≤ capacity (
       let room = capacity-slots (length stack) (names .0) deep in
       ap₂ span (sym (List·getD-append stack more 0 (d * slots) (omega arith))) (sym (List·getD-append stack more 0 (d * slots + 1) (omega arith)))
 
-  same-rows : (d n : ℕ) → d + n ≤ names .0 → rowsFrom stack d n ≡ rowsFrom (stack ++ more) d n
+  pub same-rows : (d n : ℕ) → d + n ≤ names .0 → rowsFrom stack d n ≡ rowsFrom (stack ++ more) d n
   unfolding rowsFrom
   same-rows d zero h = refl
   same-rows d (suc n) h = ap₂ (λ (e : Span) (rows : List Row). recordOf e (d + 1) ∷ rows) (same-entry d (omega arith)) (same-rows (d + 1) n (omega arith))
 
+  pub same-plan : (position : Position) (room : ℕ) → planOf stack position names room ≡ planOf (stack ++ more) position names room
+  unfolding planOf
+  same-plan position room =
+      ap₂ (λ (t u : Bool). pick (allOf (t ∷ u ∷ [])) (Filled.Rows (min (names .0) room)) Filled.BadState)
+      (le-leb (names .0) (capacity (length stack)) deep ∙ sym (le-leb (names .0) (capacity (length (stack ++ more))) still-deep))
+      (same-in-order stack (stack ++ more) position (min (names .0) room) (λ d h. same-entry d (omega arith)))
+
   -- THEOREM: over a stack that has room for the names, slots behind it change nothing
   pub slots-behind-the-stack-change-nothing : (position : Position) (list : List Row) (answer : Filled) (list' : List Row)
       → Listed stack position names list answer list' → Listed (stack ++ more) position names list answer list'
-  unfolding planOf filledWith
+  unfolding filledWith
   slots-behind-the-stack-change-nothing position list answer list' p =
-      let room : ℕ = length list in
-      let count : countOf answer ≤ names .0 = omega (arith, ap countOf (p .said), plan-fits stack position names room) in
-      let ins = same-in-order stack (stack ++ more) position (min (names .0) room) (λ d h. same-entry d (omega arith)) in
-      let fit : fits stack position names ≡ fits (stack ++ more) position names = le-leb (names .0) (capacity (length stack)) deep ∙ sym (le-leb (names .0) (capacity (length (stack ++ more))) still-deep) in
+      let count : countOf answer ≤ names .0 = omega (arith, ap countOf (p .said), plan-fits stack position names (length list)) in
       record {
-        said =
-            p .said
-            ∙ ap₂ (λ (t u : Bool). pick (allOf (t ∷ u ∷ [])) (Filled.Rows (min (names .0) room)) Filled.BadState) fit ins;
+        said = p .said ∙ same-plan position (length list);
         rows = p .rows ∙ ap (λ (rows : List Row). rows ++ drop (countOf answer) list) (same-rows 0 (countOf answer) (omega arith));
       }
 
+-- lent enough before a call that opens one name at most, the slots lent have room for the names after it
+pub deep-after : (lent left back : List ℕ) (before after : ℕ) → Enough lent before back → length left ≡ length lent → after ≤ before + 1
+    → after ≤ capacity (length (left ++ back)) → after ≤ capacity (length left)
+deep-after lent left back before after (inl room) long h deep = rw long (omega arith)
+deep-after lent left back before after (inr all) long h deep =
+    subst (λ (l : List ℕ). after ≤ capacity (length l)) (ap (λ (b : List ℕ). left ++ b) all ∙ append-nil left) deep
+
 -- ---- a stack that grows
 
-module _ (Kept : Promise) (advances : Advances Kept) (doc stack : List ℕ) (c : Config) where
-  -- a call opens one name at most
-  one-more-at-most : length doc ≤ longest → (n : ℕ) → run doc stack c (suc n) .reader .depth .0 ≤ run doc stack c n .reader .depth .0 + 1
-  one-more-at-most short n = by (isStart (said doc (run doc stack c n))) refl
-    where
-      by : (t : Bool) → isStart (said doc (run doc stack c n)) ≡ t → run doc stack c (suc n) .reader .depth .0 ≤ run doc stack c n .reader .depth .0 + 1
-      by true e = omega (arith, as-many-as-the-depth doc stack c short n, as-many-as-the-depth doc stack c short (suc n), ap length (start-adds-its-name doc stack c short n e))
-      by false e = elim (nothing-else-adds doc stack c short n e) [
-        | inl x ↦ omega (arith, as-many-as-the-depth doc stack c short n, as-many-as-the-depth doc stack c short (suc n), ap length x)
-        | inr x ↦ omega (arith, as-many-as-the-depth doc stack c short n, as-many-as-the-depth doc stack c short (suc n), ap length x)
-      ]
+-- a call opens one name at most
+pub one-more-at-most : (doc stack : List ℕ) (c : Config) → length doc ≤ longest → (n : ℕ) → run doc stack c (suc n) .reader .depth .0 ≤ run doc stack c n .reader .depth .0 + 1
+one-more-at-most doc stack c short n = by (isStart (said doc (run doc stack c n))) refl
+  where
+    by : (t : Bool) → isStart (said doc (run doc stack c n)) ≡ t → run doc stack c (suc n) .reader .depth .0 ≤ run doc stack c n .reader .depth .0 + 1
+    by true e = omega (arith, as-many-as-the-depth doc stack c short n, as-many-as-the-depth doc stack c short (suc n), ap length (start-adds-its-name doc stack c short n e))
+    by false e = elim (nothing-else-adds doc stack c short n e) [
+      | inl x ↦ omega (arith, as-many-as-the-depth doc stack c short n, as-many-as-the-depth doc stack c short (suc n), ap length x)
+      | inr x ↦ omega (arith, as-many-as-the-depth doc stack c short n, as-many-as-the-depth doc stack c short (suc n), ap length x)
+    ]
 
+module _ (Kept : Promise) (advances : Advances Kept) (doc stack : List ℕ) (c : Config) where
   -- the slots lent so far have room for the names
   lent-deep : {back : List ℕ} {n : ℕ} {w : World} → Growing Kept doc stack c back n w → w .reader .depth .0 ≤ capacity (length (w .stack))
   unfolding run fresh
@@ -103,15 +112,9 @@ module _ (Kept : Promise) (advances : Advances Kept) (doc stack : List ℕ) (c :
       let was = growing-calls-are-a-run Kept advances doc stack c before in
       let runs = growing-calls-are-a-run Kept advances doc stack c (Growing.more before enough k) in
       let long : length left ≡ length (w .stack) = ap length (advances doc _ _ answer reader left k .slots) ∙ written-length (said doc w) (w .stack) (w .reader .depth .0) in
-      by enough long (ap (λ (x : World). x .reader .depth .0) (was .1)) (ap (λ (x : World). x .reader .depth .0) (runs .1)) (one-more-at-most (was .0) n)
+      let next : reader .depth .0 ≤ w .reader .depth .0 + 1 = omega (arith, ap (λ (x : World). x .reader .depth .0) (was .1), ap (λ (x : World). x .reader .depth .0) (runs .1), one-more-at-most doc stack c (was .0) n) in
+      deep-after (w .stack) left back (w .reader .depth .0) (reader .depth .0) enough long next
       (subst (λ (x : World). x .reader .depth .0 ≤ capacity (length (x .stack))) (sym (runs .1)) (run-held doc c (was .0) stack (suc n) .deep))
-    where
-      by : Enough (w .stack) (w .reader .depth .0) back → length left ≡ length (w .stack) → w .reader .depth .0 ≡ run doc stack c n .reader .depth .0
-          → reader .depth .0 ≡ run doc stack c (suc n) .reader .depth .0
-          → run doc stack c (suc n) .reader .depth .0 ≤ run doc stack c n .reader .depth .0 + 1
-          → reader .depth .0 ≤ capacity (length (left ++ back)) → reader .depth .0 ≤ capacity (length left)
-      by (inl room) long e f h deep = rw long (omega arith)
-      by (inr all) long e f h deep = subst (λ (l : List ℕ). reader .depth .0 ≤ capacity (length l)) (ap (λ (b : List ℕ). left ++ b) all ∙ append-nil left) deep
 
   -- THEOREM: so too where the stack grows: a list that is lent between two calls, with the slots lent so far, shows the way down
   pub after-growing-calls-the-records-are-the-way-down : {back : List ℕ} {n : ℕ} {w : World} → Growing Kept doc stack c back n w → WayShown w

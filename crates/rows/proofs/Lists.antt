@@ -5,7 +5,7 @@ use mathlib.Core.Bool.{Bool, true, false}
 use mathlib.Core.List.{List, [], _∷_, _++_}
 use native.Mathlib.Omega.{arith}
 use native.Mathlib.Numerals.{add-one}
-use lib.ListN.{length, set, drop}
+use lib.ListN.{length, getD, set, drop}
 use lib.Dec.{leb}
 use borrow.Author.Tests.{leb-true}
 use Rattle.ground.specs.Choose.{pick, allOf}
@@ -52,6 +52,15 @@ pub rows-length : (stack : List ℕ) (d n : ℕ) → length (rowsFrom stack d n)
 unfolding rowsFrom
 rows-length stack d zero = refl
 rows-length stack d (suc n) = ap suc (rows-length stack (d + 1) n)
+
+from-there : (stack : List ℕ) (d n i : ℕ) (any : Row) → i < n → getD (rowsFrom stack d n) i any ≡ rowAt stack (d + i)
+unfolding rowsFrom
+from-there stack d zero i any h = absurd (omega arith)
+from-there stack d (suc n) zero any h = let e : d ≡ d + 0 = omega arith in ap (rowAt stack) e
+from-there stack d (suc n) (suc i) any h = let e : d + 1 + i ≡ d + suc i = omega arith in from-there stack (d + 1) n i any (omega arith) ∙ ap (rowAt stack) e
+
+pub row-there : (stack : List ℕ) (n i : ℕ) (any : Row) → i < n → getD (rowsFrom stack 0 n) i any ≡ rowAt stack i
+row-there stack n i any h = let e : 0 + i ≡ i = omega arith in from-there stack 0 n i any h ∙ ap (rowAt stack) e
 
 module _ (s : List ℕ) where
   more : (d i : ℕ) (list : List Row) → i < length list → set (rowsFrom s d i ++ drop i list) i (rowAt s (d + i)) ≡ rowsFrom s d (suc i) ++ drop (suc i) list

@@ -6,7 +6,7 @@ use mathlib.Core.Logic.{_↔_}
 use mathlib.Core.List.{List, [], _∷_, _++_}
 use native.Mathlib.Omega.{arith}
 use native.Mathlib.Decide.{decLt}
-use lib.ListN.{length, getD, drop}
+use lib.ListN.{length, getD, drop, List·getD-append}
 use lib.Seq.{getD-append-add, getD-drop}
 use lib.Dec.{leb}
 use borrow.Author.Tests.{le-leb, leb-true}
@@ -25,7 +25,7 @@ use Rattle.rows.specs.Answers.{countOf}
 use Rattle.rows.specs.Rows.{rowAt, inOrder, allInOrder, rowOf, planOf, rowsFrom, filledWith, Listed}
 use Rattle.rows.specs.Words.{Ordered, RefusesOne, RefusesAll, over-capacity, at-nought, above-the-names, out-of-order}
 use Rattle.rows.proofs.Records.{one-over, one-outside, one-above, one-disordered, one-given, one-shows, not-given, one-out-of-order, plan-over, plan-disordered, plan-all}
-use Rattle.rows.proofs.Lists.{plan-gives, plan-fits, rows-length, filled-length}
+use Rattle.rows.proofs.Lists.{plan-gives, plan-fits, rows-length, row-there, filled-length}
 
 -- ---- the test of an entry, in words
 
@@ -143,12 +143,6 @@ what-is-not-read-does-not-count stack other position names room long same =
 
 -- ---- every record of a list
 
-row-there : (stack : List ℕ) (d n i : ℕ) (rest : List Row) (any : Row) → i < n → getD (rowsFrom stack d n ++ rest) i any ≡ rowAt stack (d + i)
-unfolding rowsFrom
-row-there stack d zero i rest any h = absurd (omega arith)
-row-there stack d (suc n) zero rest any h = let e : d ≡ d + 0 = omega arith in ap (rowAt stack) e
-row-there stack d (suc n) (suc i) rest any h = let e : d + 1 + i ≡ d + suc i = omega arith in row-there stack (d + 1) n i rest any (omega arith) ∙ ap (rowAt stack) e
-
 module _ (stack : List ℕ) (position : Position) (names : Depth) (list : List Row) (answer : Filled) (list' : List Row) (p : Listed stack position names list answer list') where
   counted : countOf answer ≤ length list
   counted = omega (arith, ap countOf (p .said), plan-fits stack position names (length list))
@@ -161,9 +155,12 @@ module _ (stack : List ℕ) (position : Position) (names : Depth) (list : List R
   pub each-record-is-the-one-of-its-depth : (i : ℕ) (any : Row) → i < countOf answer → rowOf stack position names (depthOf (i + 1)) ≡ Given.Row (getD list' i any)
   unfolding filledWith
   each-record-is-the-one-of-its-depth i any h =
-      let e : 0 + i ≡ i = omega arith in
-      plan-gives stack position names (length list) i (omega (arith, ap countOf (p .said)))
-      ∙ ap Given.Row (ap (rowAt stack) (sym e) ∙ sym (row-there stack 0 (countOf answer) i (drop (countOf answer) list) any h) ∙ ap (λ (l : List Row). getD l i any) (sym (p .rows)))
+      let front : List Row = rowsFrom stack 0 (countOf answer) in
+      let there : getD list' i any ≡ rowAt stack i =
+      ap (λ (l : List Row). getD l i any) (p .rows)
+      ∙ List·getD-append front (drop (countOf answer) list) any i (omega (arith, rows-length stack 0 (countOf answer)))
+      ∙ row-there stack (countOf answer) i any h in
+      plan-gives stack position names (length list) i (omega (arith, ap countOf (p .said))) ∙ ap Given.Row (sym there)
 
   -- THEOREM: "records beyond stay as they were"
   pub records-beyond-stay : (i : ℕ) (any : Row) → countOf answer ≤ i → getD list' i any ≡ getD list i any

@@ -1,6 +1,6 @@
 -- In a run no record and no list is refused, and the records are the way down that the answers tell. Assumes nothing.
 use Prim.Native.Nat.{ℕ, zero, suc, _+_, _-_, _*_, _≤_, _<_, min}
-use mathlib.Core.Path.{_≡_, refl, sym, ap, _∙_, subst}
+use mathlib.Core.Path.{_≡_, refl, sym, ap, ap₂, _∙_, subst}
 use mathlib.Core.Bool.{true}
 use mathlib.Core.Logic.{inl, inr}
 use mathlib.Core.List.{List, [], _∷_, _++_, map, reverse, reverse-cons}
@@ -92,21 +92,28 @@ module _ (stack : List ℕ) (position : Position) (names : Depth) (deep : names 
   planned-all : (room : ℕ) → planOf stack position names room ≡ Filled.Rows (min (names .0) room)
   planned-all room = sym (plan-all stack position names room deep (behind-all stack position (names .0) (min (names .0) room) b (omega arith)))
 
-  filled-all : (list : List Row) → filledWith stack (min (names .0) (length list)) list
-      ≡ take (length list) (numbered 1 (reverse (entries stack (names .0)))) ++ drop (names .0) list
-  unfolding filledWith
-  filled-all list =
-      let all = entries-down stack (names .0) in
-      elim (decLt (names .0) (length list)) [
-        | yes h ↦
-            let k : min (names .0) (length list) ≡ names .0 = omega arith in
-            let long : length (numbered 1 (reverse (entries stack (names .0)))) ≡ names .0 = ap length (sym all) ∙ rows-length stack 0 (names .0) in
-            rw k (ap (λ (rows : List Row). rows ++ drop (names .0) list) (all ∙ sym (take-all (length list) _ (omega arith))))
-        | no h ↦
-            let k : min (names .0) (length list) ≡ length list = omega arith in
-            rw (k, drop-of-length-le list {i = length list} (omega arith), drop-of-length-le list {i = names .0} (omega arith))
-            (ap (λ (rows : List Row). rows ++ []) (sym (rows-first stack 0 (names .0) (length list) (omega arith)) ∙ ap (take (length list)) all))
-      ]
+-- the n outermost of so many names, and what is left of a list behind them
+rows-down : (stack : List ℕ) (names room : ℕ) → rowsFrom stack 0 (min names room) ≡ take room (numbered 1 (reverse (entries stack names)))
+rows-down stack names room =
+    let all = entries-down stack names in
+    elim (decLt names room) [
+      | yes h ↦
+          let k : min names room ≡ names = omega arith in
+          let long : length (numbered 1 (reverse (entries stack names))) ≡ names = ap length (sym all) ∙ rows-length stack 0 names in
+          rw k (all ∙ sym (take-all room _ (omega arith)))
+      | no h ↦
+          let k : min names room ≡ room = omega arith in
+          rw k (sym (rows-first stack 0 names room (omega arith)) ∙ ap (take room) all)
+    ]
+
+drop-least : (n : ℕ) (list : List Row) → drop (min n (length list)) list ≡ drop n list
+drop-least n list =
+    elim (decLt n (length list)) [
+      | yes h ↦ let k : min n (length list) ≡ n = omega arith in ap (λ (m : ℕ). drop m list) k
+      | no h ↦
+          let k : min n (length list) ≡ length list = omega arith in
+          ap (λ (m : ℕ). drop m list) k ∙ drop-of-length-le list {i = length list} (omega arith) ∙ sym (drop-of-length-le list {i = n} (omega arith))
+    ]
 
 -- ---- in a run
 
@@ -127,22 +134,27 @@ module _ (doc stack : List ℕ) (c : Config) (short : length doc ≤ longest) (n
       let h = run-held doc c short stack n in
       planned-all (w .stack) (w .reader .position) (w .reader .depth) (h .deep) (h .behind)
 
+  -- as many names are open as the answers leave, and the outermost of them are the first of the way down
+  pub as-many-open : w .reader .depth .0 ≡ length (leftOpen (w .answers))
+  as-many-open = sym (entries-length (w .stack) (w .reader .depth .0)) ∙ ap length (run-held doc c short stack n .names)
+
+  pub the-first-rows : (room : ℕ) → rowsFrom (w .stack) 0 (min (w .reader .depth .0) room) ≡ take room (wayDown (w .answers))
+  unfolding wayDown
+  the-first-rows room =
+      rows-down (w .stack) (w .reader .depth .0) room ∙ ap (λ (names : List Span). take room (numbered 1 (reverse names))) (run-held doc c short stack n .names)
+
   -- THEOREM: "the records are the open names of demand 3, outermost first", with depth 1, 2, ..: the way down that the answers given so far tell
   pub the-records-are-the-way-down : (list : List Row) (answer : Filled) (list' : List Row)
       → Listed (w .stack) (w .reader .position) (w .reader .depth) list answer list' → Shows (w .answers) list answer list'
-  unfolding wayDown
+  unfolding filledWith
   the-records-are-the-way-down list answer list' p =
-      let h = run-held doc c short stack n in
-      let deep : w .reader .depth .0 ≡ length (leftOpen (w .answers)) = sym (entries-length (w .stack) (w .reader .depth .0)) ∙ ap length (h .names) in
       let count : answer ≡ Filled.Rows (min (w .reader .depth .0) (length list)) = p .said ∙ no-list-is-refused (length list) in
       record {
-        count = count ∙ ap (λ (d : ℕ). Filled.Rows (min d (length list))) deep;
+        count = count ∙ ap (λ (d : ℕ). Filled.Rows (min d (length list))) as-many-open;
         rows =
             p .rows
             ∙ ap (λ (f : Filled). filledWith (w .stack) (countOf f) list) count
-            ∙ filled-all (w .stack) (w .reader .position) (w .reader .depth) (h .deep) (h .behind) list
-            ∙ ap (λ (names : List Span). take (length list) (numbered 1 (reverse names)) ++ drop (w .reader .depth .0) list) (h .names)
-            ∙ ap (λ (d : ℕ). take (length list) (numbered 1 (reverse (leftOpen (w .answers)))) ++ drop d list) deep;
+            ∙ ap₂ _++_ (the-first-rows (length list)) (drop-least (w .reader .depth .0) list ∙ ap (λ (d : ℕ). drop d list) as-many-open);
       }
 
 -- ---- the bytes of the records
