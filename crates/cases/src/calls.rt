@@ -1,5 +1,7 @@
-// The cases of the reader, of the column reader and of a tag's attributes: the calls that a line makes. Those of scans that are fed stand in `feeds.rt`.
+// The cases of the reader, of the column reader and of a tag's attributes: the calls that a line makes. Those of scans that are fed stand in `feeds.rt`,
+// those of open rows in `open.rt`.
 use crate::feeds::feed_case;
+use crate::open::open_case;
 use crate::says::say_column;
 use crate::says::say_item;
 use crate::says::say_names;
@@ -45,13 +47,15 @@ const PHASES: usize = 6;
 pub fn answer(text: &[u8]) {
     let end = word(text, 0);
     let form = ground::part(text, 0, end);
-    match number_of(form, b"run;state;content;column;attributes;feed") {
+    match number_of(form, b"run;state;content;column;attributes;feed;row;rows") {
         0 => run_case(text, end),
         1 => state_case(text, end),
         2 => content_case(text, end),
         3 => column_case(text, end),
         4 => attributes_case(text, end),
         5 => feed_case(text, end),
+        6 => open_case(text, end, false),
+        7 => open_case(text, end, true),
         _ => {}
     }
 }

@@ -6,13 +6,16 @@
 //   column ROOM SLOTS BYTES                                               the times of a document, in ROOM slots that hold 9999 before
 //   attributes BYTES                                                      the attributes of a tag's content, from the name on
 //   feed STATE COUNT LEFT SEEN BYTES                                      a scan, fed the bytes between one `|` and the next
-// The answers to the last six stand below the line. NAME is one that `leaves.rt` has. A function that compares has its other bytes in place of the
+//   row DEPTH POSITION NAMES SLOTS VALUES                                 the open name at a depth, in 4 slots that hold 9999 before
+//   rows ROOM POSITION NAMES SLOTS VALUES                                 the open names, in ROOM slots that hold 9999 before
+// The answers to the last eight stand below the line. NAME is one that `leaves.rt` has. A function that compares has its other bytes in place of the
 // second number. SETTINGS are letters of `settings.rt` or `-`. PHASE has a `!` in front where the mark is on, in the answers too. SLOTS is how many slots
-// the lent stack has, at most as many as `calls.rt` has (for `column` 16, as of ROOM), and VALUES, with commas or `-`, what its first ones hold. In BYTES `\` and two hexadecimal digits
+// the lent stack has, at most as many as `calls.rt` has (for `column` and the last two 16, as of ROOM), and VALUES, with commas or `-`, what its first ones hold. In BYTES `\` and two hexadecimal digits
 // stand for a byte. STATE is a word that `feeds.rt` has. Any other line is written as it is. The cases together have fewer than 327,680 bytes.
 mod calls;
 mod feeds;
 mod leaves;
+mod open;
 mod says;
 
 use libc::STDIN_FILENO;
