@@ -1,7 +1,7 @@
-/* Sporebasket: a verified reader of XML events, of attributes, of references, and of columns of times, and scans of input that comes in pieces. Link libsporebasket.a, which
- * `tools/host-staticlib capi` makes.
+/* Sporebasket: a verified reader of XML events, of attributes, of references, and of columns of times, the names that are open, and scans of input that comes in pieces. Link
+ * libsporebasket.a, which `tools/host-staticlib capi` makes.
  *
- * The host lends all memory: the document, a stack for the open names, the state of a reader or of a scan, a buffer, a column and room for an answer. Nothing is kept between
+ * The host lends all memory: the document, a stack for the open names, the state of a reader or of a scan, a buffer, a column, a list of rows and room for an answer. Nothing is kept between
  * calls but what stands there, so each thread may have a reader of its own, over one document too. Every function but
  * sporebasket_default_settings answers 0 or the number of a refusal, and asks nothing of the numbers that it is lent: whatever they are, the
  * answer is the one that docs/PROMISES.md states. It asks of C what C cannot be asked to check: a pointer is to as many bytes or slots as its
@@ -92,6 +92,20 @@ enum {
     SPOREBASKET_DECL,
     SPOREBASKET_PI,
     SPOREBASKET_EOF
+};
+
+/* The slots of a row, which tells an open name: its span in the document, and its depth, from 1, the outermost. */
+enum {
+    SPOREBASKET_ROW_START,
+    SPOREBASKET_ROW_END,
+    SPOREBASKET_ROW_DEPTH,
+    SPOREBASKET_ROW_SLOTS
+};
+
+/* The slot of the answer of sporebasket_open_rows: how many rows were filled. */
+enum {
+    SPOREBASKET_FILLED_ROWS,
+    SPOREBASKET_FILLED_SLOTS
 };
 
 /* The slots of a part of the document. */
@@ -236,6 +250,30 @@ size_t sporebasket_new(const uint8_t *document, size_t length, size_t settings, 
  * one held in its first slots: every answer is then as if the longest had been lent from the start. */
 size_t sporebasket_read_event(const uint8_t *document, size_t length, size_t *stack, size_t stack_slots, size_t *state,
                               size_t state_slots, size_t *answer, size_t answer_slots);
+
+/* Writes the open name of this depth, from 1, the outermost, into the first SPOREBASKET_ROW_SLOTS slots of `row`. The stack and the state are a reader's, between any two calls, and are only read;
+ * of the state POSITION and DEPTH alone are looked at.
+ * 17, with nothing written, exactly where one of these is so:
+ * - The row has fewer than SPOREBASKET_ROW_SLOTS slots, or the state fewer than SPOREBASKET_STATE_SLOTS.
+ * - `depth` is 0, or more than DEPTH.
+ * - DEPTH is more than SPOREBASKET_MOST_NAMES, or than half the slots of the stack, rounded down.
+ * - Of the name, slots 2 * depth - 2 and 2 * depth - 1 of the stack, the start is more than the end, or the end more than POSITION.
+ * From sporebasket_new on, with everything lent as sporebasket_read_event says and enough slots, it comes for no depth from 1 to DEPTH, whatever the settings. */
+size_t sporebasket_open_row(const size_t *stack, size_t stack_slots, const size_t *state, size_t state_slots, size_t depth, size_t *row,
+                            size_t row_slots);
+
+/* Lists the open names, the way down to where a run stands or stopped: fills `rows` from its first slot on, SPOREBASKET_ROW_SLOTS slots to a row, the outermost name first, and writes into the answer how
+ * many rows were filled: as many as names are open, or as the list has room for, if that is less. Slots behind these rows are left alone, one or two at the end that are no whole row too. The stack and the state
+ * are a reader's, between any two calls, and are only read; of the state POSITION and DEPTH alone are looked at. A list of 3 * DEPTH slots has room for all.
+ * 17, exactly where one of these is so:
+ * - The answer has fewer than SPOREBASKET_FILLED_SLOTS slots. Then nothing is written, not even the answer.
+ * - The state has fewer than SPOREBASKET_STATE_SLOTS slots.
+ * - DEPTH is more than SPOREBASKET_MOST_NAMES, or than half the slots of the stack, rounded down, even if there is room for no row.
+ * - Of a name for which there is room the start is more than the end, or the end more than POSITION. The others are not looked at.
+ * Then, but in the first case, FILLED_ROWS is 0, and no slot of `rows` changes. From sporebasket_new on, with everything lent as sporebasket_read_event says and enough slots, 17 never comes, whatever
+ * the settings, and the rows are the names that the answers so far left open. */
+size_t sporebasket_open_rows(const size_t *stack, size_t stack_slots, const size_t *state, size_t state_slots, size_t *rows,
+                             size_t rows_slots, size_t *answer, size_t answer_slots);
 
 /* Where the bytes of a span stand in the document: the slots of `part` are its start and its end, or both are the document's end if the
  * span does not lie in it. 17: the part has too few slots, and nothing is written. */

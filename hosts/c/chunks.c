@@ -1,5 +1,5 @@
 /* Lists the events of a document that comes in chunks, from a file or standard input, by the C interface: the lines of the program events.c, each as soon as its bytes have come. The first word is how many
- * bytes a chunk has, and before it may stand what events.c takes: --check-open-names, --attributes or --references.
+ * bytes a chunk has, and before it may stand what events.c takes: --check-open-names, --attributes, --references or --rows.
  *
  * Of a document that is too long the answers that were whole before are listed, and then `refused 16 0`.
  *
@@ -141,7 +141,7 @@ static int list(FILE *in, size_t size, struct asked asked, struct fed *fed, stru
         }
         lent->state[SPOREBASKET_STATE_LENGTH] = fed->length;
         refusal = read_on(fed->bytes, fed->length, lent);
-        say(fed->bytes, fed->length, asked, lent->answer);
+        say(fed->bytes, fed->length, asked, lent);
         if (at_end && is_late(lent->answer, fed->length)) {
             fflush(stdout);
             fprintf(stderr, "chunks: the piece up to byte %zu was whole, and was not given\n", lent->answer[SPOREBASKET_ANSWER_PIECE_TO]);
@@ -178,7 +178,7 @@ int main(int argc, char **argv)
     int ended;
 
     if (size == 0) {
-        fputs("usage: chunks [--check-open-names | --attributes | --references] SIZE [FILE]\n", stderr);
+        fputs("usage: chunks [--check-open-names | --attributes | --references | --rows] SIZE [FILE]\n", stderr);
         return 2;
     }
     in = argc > word + 1 ? fopen(argv[word + 1], "rb") : stdin;

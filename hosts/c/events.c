@@ -1,6 +1,7 @@
 /* Lists the events of a document, from a file or standard input, by the C interface: a line to each answer, up to the end of file. Before the file's name
  * may stand --check-open-names: then a document that ends while names are open is refused (18) before its end of file; --attributes: then the attributes of
- * a tag stand behind it, a line to each; or --references: then the bytes of its character stand behind a reference, in hexadecimal.
+ * a tag stand behind it, a line to each; --references: then the bytes of its character stand behind a reference, in hexadecimal; or --rows: then the open names
+ * stand behind each refusal and behind the end of file, a line to each.
  *
  *   cc -I include hosts/c/events.c target/host/libsporebasket.a -o events
  */
@@ -27,7 +28,7 @@ static int list(const uint8_t *document, size_t length, struct asked asked, stru
             return 0;
         }
         refusal = read_on(document, length, lent);
-        say(document, length, asked, lent->answer);
+        say(document, length, asked, lent);
         /* 17 does not come to who keeps the state as it was left; it would come again for ever */
     } while (refusal != SPOREBASKET_BAD_STATE && lent->answer[SPOREBASKET_ANSWER_KIND] != SPOREBASKET_EOF);
     return 1;

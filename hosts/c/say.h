@@ -67,24 +67,51 @@ static void say_character(const uint8_t *document, const size_t *reference)
     putchar('\n');
 }
 
+/* An open name has where it begins, where it ends, and its depth. */
+static void say_row(const size_t *row)
+{
+    printf("row %zu %zu %zu\n", row[SPOREBASKET_ROW_START], row[SPOREBASKET_ROW_END], row[SPOREBASKET_ROW_DEPTH]);
+}
+
+/* The open names, the outermost first: by one call those that the list has room for, and by a call for each those that are further down. */
+static void say_rows(const struct lent *lent)
+{
+    size_t rows[16 * SPOREBASKET_ROW_SLOTS];
+    size_t filled[SPOREBASKET_FILLED_SLOTS];
+    size_t slots = lent->names * SPOREBASKET_NAME_SLOTS;
+    size_t i;
+
+    sporebasket_open_rows(lent->stack, slots, lent->state, SPOREBASKET_STATE_SLOTS, rows, sizeof rows / sizeof *rows, filled,
+                          SPOREBASKET_FILLED_SLOTS);
+    for (i = 0; i < filled[SPOREBASKET_FILLED_ROWS]; i++) {
+        say_row(rows + i * SPOREBASKET_ROW_SLOTS);
+    }
+    /* 17 comes where no name is as deep */
+    while (sporebasket_open_row(lent->stack, slots, lent->state, SPOREBASKET_STATE_SLOTS, ++i, rows, SPOREBASKET_ROW_SLOTS) == 0) {
+        say_row(rows);
+    }
+}
+
 /* What is asked for besides the events. */
 struct asked {
     int check;
     int attributes;
     int references;
+    int rows;
 };
 
 /* What the first word asks for, if there is one. If it is an option, `next` goes on to the word behind it. */
 static struct asked asked_by(const char *word, int *next)
 {
-    struct asked asked = {0, 0, 0};
+    struct asked asked = {0, 0, 0, 0};
 
     if (word != NULL) {
         asked.check = strcmp(word, "--check-open-names") == 0;
         asked.attributes = strcmp(word, "--attributes") == 0;
         asked.references = strcmp(word, "--references") == 0;
+        asked.rows = strcmp(word, "--rows") == 0;
     }
-    *next += asked.check + asked.attributes + asked.references;
+    *next += asked.check + asked.attributes + asked.references + asked.rows;
     return asked;
 }
 
@@ -95,14 +122,19 @@ static size_t settings_of(struct asked asked)
 }
 
 /* All lines of the last answer. */
-static void say(const uint8_t *document, size_t length, struct asked asked, const size_t *answer)
+static void say(const uint8_t *document, size_t length, struct asked asked, const struct lent *lent)
 {
+    const size_t *answer = lent->answer;
+
     say_answer(answer);
     if (asked.attributes && is_tag(answer)) {
         say_attributes(document, length, answer);
     }
     if (asked.references && answer[SPOREBASKET_ANSWER_KIND] == SPOREBASKET_GENERAL_REF) {
         say_character(document, answer);
+    }
+    if (asked.rows && (answer[SPOREBASKET_ANSWER_NUMBER] != 0 || answer[SPOREBASKET_ANSWER_KIND] == SPOREBASKET_EOF)) {
+        say_rows(lent);
     }
 }
 

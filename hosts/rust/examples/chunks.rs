@@ -1,5 +1,5 @@
 //! Lists the events of a document that comes in chunks, from a file or standard input: the lines of the example `events`, each as soon as its bytes have come. The first word is how many bytes a chunk has, and
-//! before it may stand what `events` takes: `--check-open-names`, `--attributes` or `--references`.
+//! before it may stand what `events` takes: `--check-open-names`, `--attributes`, `--references` or `--rows`.
 //!
 //! Of a document that is too long the answers that were whole before are listed, and then `refused 16 0`.
 //!
@@ -59,6 +59,9 @@ fn list(mut line: impl Read, size: usize, asked: Asked, out: &mut impl Write) ->
                 false
             }
         };
+        if asked == Asked::Rows && (is_last || answer.is_err()) {
+            lines::rows(feeder.way_down(), out)?;
+        }
         // what is left for the end goes up to it, but for a `<` or `<!` alone, which is not read
         let unread = match answer.err().and_then(|error| error.number()) {
             Some(1) => 1,
@@ -86,7 +89,7 @@ fn main() {
     let mut words = env::args_os().skip(1).peekable();
     let asked = lines::asked(&mut words);
     let Some(size) = words.next().and_then(number) else {
-        eprintln!("usage: chunks [--check-open-names | --attributes | --references] SIZE [FILE]");
+        eprintln!("usage: chunks [--check-open-names | --attributes | --references | --rows] SIZE [FILE]");
         process::exit(2);
     };
     let mut out = io::BufWriter::new(io::stdout().lock());

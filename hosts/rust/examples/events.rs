@@ -1,6 +1,6 @@
 //! Lists the events of a document, from a file or standard input: a line to each answer, up to the end of file. Before the file's name may stand `--check-open-names`:
 //! then a document that ends while names are open is refused (18) before its end of file; `--attributes`: then the attributes of a tag stand behind it, a line to
-//! each; or `--references`: then the bytes of its character stand behind a reference, in hexadecimal.
+//! each; `--references`: then the bytes of its character stand behind a reference, in hexadecimal; or `--rows`: then the open names stand behind each refusal and behind the end of file, a line to each.
 
 mod input;
 mod lines;
@@ -22,17 +22,26 @@ fn list(document: &[u8], asked: Asked, out: &mut impl Write) -> io::Result<()> {
                 let told = Told::of(&event);
                 told.say(reader.piece(), document, asked, out)?;
                 if told.is_end() {
-                    return Ok(());
+                    return rows(&reader, asked, out);
                 }
             }
             Err(error) => {
                 lines::refused(&error, reader.error_position(), out)?;
+                rows(&reader, asked, out)?;
                 // here no end of file comes
                 if matches!(error, Error::Refused(Refused::SliceTooLong)) {
                     return Ok(());
                 }
             }
         }
+    }
+}
+
+/// The open names, if they are asked for.
+fn rows(reader: &Reader<&[u8]>, asked: Asked, out: &mut impl Write) -> io::Result<()> {
+    match asked {
+        Asked::Rows => lines::rows(reader.way_down(), out),
+        _ => Ok(()),
     }
 }
 

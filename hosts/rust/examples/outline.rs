@@ -1,4 +1,5 @@
-//! Prints the outline of a document, from a file or standard input: names and text, indented by depth, and each refusal with its line and column.
+//! Prints the outline of a document, from a file or standard input: names and text, indented by depth, and each refusal with its line and column. Below a refusal stands the way down to it: the names that it
+//! stands in, the outermost first, each with its line and column.
 
 mod input;
 
@@ -7,15 +8,42 @@ use sporebasket::events::Event;
 use sporebasket::ext::ReaderExt;
 use sporebasket::Reader;
 use std::io::{self, Write};
-use std::{env, process};
+use std::{env, fmt, process};
 
-/// The line and the column of a place, both from 1. A column is a character.
-fn line_and_column(document: &[u8], place: usize) -> (usize, usize) {
-    let before = &document[..place];
-    let line = before.iter().filter(|byte| **byte == b'\n').count();
-    let start = before.iter().rposition(|byte| *byte == b'\n').map_or(0, |at| at + 1);
-    let column = String::from_utf8_lossy(&before[start..]).chars().count();
-    (line + 1, column + 1)
+/// A place in the document, with its line and its column, both from 1. A column is a character.
+struct Place {
+    at: usize,
+    line: usize,
+    column: usize,
+}
+
+impl Place {
+    const FIRST: Place = Place {
+        at: 0,
+        line: 1,
+        column: 1,
+    };
+
+    /// The place of a byte further on. This one has to stand between two characters.
+    fn go_on(&self, document: &[u8], at: usize) -> Place {
+        let between = &document[self.at..at];
+        let lines = between.iter().filter(|byte| **byte == b'\n').count();
+        let (first, rest) = match between.iter().rposition(|byte| *byte == b'\n') {
+            Some(end) => (1, &between[end + 1..]),
+            None => (self.column, between),
+        };
+        Place {
+            at,
+            line: self.line + lines,
+            column: first + String::from_utf8_lossy(rest).chars().count(),
+        }
+    }
+}
+
+impl fmt::Display for Place {
+    fn fmt(&self, f: &mut fmt::Formatter<'_>) -> fmt::Result {
+        write!(f, "{}:{}", self.line, self.column)
+    }
 }
 
 /// What stands on the line of an event, if it has one.
@@ -27,6 +55,20 @@ fn shown(event: &Event) -> Option<String> {
         Event::GeneralRef(reference) => Some(format!("&{};", &**reference)),
         _ => None,
     }
+}
+
+/// The way down to what was refused last: `in`, and each name with the place of its first byte. It is empty where no name is open.
+fn way_down(reader: &Reader<&[u8]>) -> String {
+    let document = reader.document();
+    // a closing tag that was refused for its name has closed the one that it stands in
+    let spans = reader.way_down().map(|row| row.span).chain(reader.expected());
+    let (mut way, mut place) = (String::new(), Place::FIRST);
+    for span in spans {
+        place = place.go_on(document, span.start);
+        let name = String::from_utf8_lossy(&document[span]);
+        way += &format!("{} <{name}> {place}", if way.is_empty() { "in" } else { " >" });
+    }
+    way
 }
 
 fn outline(document: &[u8], out: &mut impl Write) -> io::Result<()> {
@@ -44,8 +86,12 @@ fn outline(document: &[u8], out: &mut impl Write) -> io::Result<()> {
                 }
             }
             Err(error) => {
-                let (line, column) = line_and_column(document, reader.error_position() as usize);
-                writeln!(out, "{:indent$}! {line}:{column}: {error}", "")?;
+                let place = Place::FIRST.go_on(document, reader.error_position() as usize);
+                writeln!(out, "{:indent$}! {place}: {error}", "")?;
+                let way = way_down(&reader);
+                if !way.is_empty() {
+                    writeln!(out, "{:indent$}! {way}", "")?;
+                }
                 // here no end of file comes
                 if matches!(error, Error::Refused(Refused::SliceTooLong)) {
                     break;

@@ -15,7 +15,8 @@
 //! # Ok::<(), sporebasket::Error>(())
 //! ```
 //!
-//! [`Layout`] is an account of a run: that no byte of a page is set twice, and none dropped.
+//! Where a run stops, [`way_down`](ReaderExt::way_down) is the way to it: the names that are open, and where each was opened. [`Layout`] is an account of a run: that no byte of a page is set twice, and none
+//! dropped.
 
 use crate::errors::{Error, IllFormedError, Refused, SyntaxError};
 use crate::events::attributes::{AttrError, AttrRefused};
@@ -27,6 +28,7 @@ use std::fmt;
 use std::ops::Range;
 
 pub use crate::layout::{Layout, LayoutError, Parts};
+pub use crate::rows::{Row, WayDown};
 
 /// The traits are for the types here alone, so that each may have more to tell.
 mod sealed {
@@ -128,6 +130,23 @@ pub trait ReaderExt<'a>: sealed::Sealed + Sized {
     /// # Ok::<(), sporebasket::Error>(())
     /// ```
     fn open_names(&self) -> impl DoubleEndedIterator<Item = QName<'a>> + ExactSizeIterator + '_;
+
+    /// The way down to where the reader stands: the open names, the outermost first, each with where it stands in the document and how deep it is. These are the rows that the archive lists; that they are the
+    /// names which the answers so far left open is proved (docs/PROMISES.md).
+    ///
+    /// After a refusal it is the way down to what was refused. A closing tag that was refused for its name (10) has closed the latest name nevertheless: [`expected`](ReaderExt::expected) is where that stands.
+    ///
+    /// The rows are those of the time of the call, and are kept while the reader goes on.
+    ///
+    /// ```
+    /// use sporebasket::ext::ReaderExt;
+    ///
+    /// let mut reader = sporebasket::Reader::from_str("<d><t n='1'>06:15 & 06:45</t></d>");
+    /// while reader.read_event().is_ok() {}
+    /// let way: Vec<_> = reader.way_down().map(|row| (row.name.0, row.span, row.depth)).collect();
+    /// assert_eq!(way, [("d", 1..2, 1), ("t", 4..5, 2)]);
+    /// ```
+    fn way_down(&self) -> WayDown<'a>;
 
     /// What the reader does next.
     ///

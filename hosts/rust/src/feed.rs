@@ -27,7 +27,7 @@
 
 use crate::errors::{Refused, Result};
 use crate::events::Event;
-use crate::ext::Phase;
+use crate::ext::{Phase, WayDown};
 use crate::layout::{is_white, MARK};
 use crate::lent;
 use crate::name::QName;
@@ -374,6 +374,22 @@ impl Feeder {
     /// The open names, the outermost first.
     pub fn open_names(&self) -> impl DoubleEndedIterator<Item = QName<'_>> + ExactSizeIterator + '_ {
         self.run.open_names(&self.bytes)
+    }
+
+    /// The way down to where the reader stands, as [`ReaderExt::way_down`](crate::ext::ReaderExt::way_down) has it.
+    ///
+    /// ```
+    /// use sporebasket::feed::Feeder;
+    ///
+    /// let mut feeder = Feeder::new();
+    /// feeder.feed(b"<d><t n='1'>06:")?;
+    /// while feeder.read_event()?.is_some() {}
+    /// let latest = feeder.way_down().next_back().unwrap();
+    /// assert_eq!((latest.name.as_ref(), latest.span, latest.depth), ("t", 4..5, 2));
+    /// # Ok::<(), sporebasket::Error>(())
+    /// ```
+    pub fn way_down(&self) -> WayDown<'_> {
+        self.run.way_down(&self.bytes)
     }
 
     /// What the reader does next.

@@ -28,8 +28,8 @@ use crate::raw::{self, answer as slot};
 use std::str;
 
 pub use crate::raw::{
-    ANSWER_SLOTS, ATTRIBUTE_SLOTS, COLUMN_SLOTS, LONGEST, MOST_NAMES, NAME_SLOTS, PART_SLOTS, SCAN_SLOTS, STATE_SLOTS,
-    UNESCAPE_SLOTS,
+    ANSWER_SLOTS, ATTRIBUTE_SLOTS, COLUMN_SLOTS, FILLED_SLOTS, LONGEST, MOST_NAMES, NAME_SLOTS, PART_SLOTS, ROW_SLOTS,
+    SCAN_SLOTS, STATE_SLOTS, UNESCAPE_SLOTS,
 };
 
 /// The settings of a reader to which none are given, a bit each.
@@ -151,6 +151,81 @@ fn as_str(piece: &[u8]) -> Result<&str, usize> {
 
 /// The refusal that no reader of this package gives.
 const BAD_STATE: usize = 17;
+
+/// Writes the open name of this depth, from 1, the outermost, into the first [`ROW_SLOTS`] slots of the row: its start, its end and its depth. The stack and the state are as a call of [`read_event`] left
+/// them.
+///
+/// 17, with nothing written, exactly where one of these is so: the row has fewer than [`ROW_SLOTS`] slots or the state fewer than [`STATE_SLOTS`]; this depth is 0 or above the state's; the state's is above
+/// [`MOST_NAMES`] or half the stack's slots; the start of the name is above its end, or its end above the position. In a run it comes for no depth from 1 to the state's.
+///
+/// ```
+/// use sporebasket::lent;
+///
+/// let (mut state, mut stack) = ([0; lent::STATE_SLOTS], [0; 2 * lent::NAME_SLOTS]);
+/// lent::new(b"<d><t>", lent::default_settings(), &mut state);
+/// for _ in 0..2 {
+///     lent::read_event(b"<d><t>", &mut stack, &mut state, &mut [0; lent::ANSWER_SLOTS]);
+/// }
+/// let mut row = [0; lent::ROW_SLOTS];
+/// assert_eq!(lent::open_row(&stack, &state, 2, &mut row), 0);
+/// assert_eq!(row, [4, 5, 2]);
+/// // no name is as deep
+/// assert_eq!(lent::open_row(&stack, &state, 3, &mut row), 17);
+/// assert_eq!(row, [4, 5, 2]);
+/// ```
+pub fn open_row(stack: &[usize], state: &[usize], depth: usize, row: &mut [usize]) -> usize {
+    // SAFETY: pointers and counts are those of slices, so no pointer is null; the row is lent exclusively, so it overlaps with nothing.
+    unsafe {
+        raw::sporebasket_open_row(
+            stack.as_ptr(),
+            stack.len(),
+            state.as_ptr(),
+            state.len(),
+            depth,
+            row.as_mut_ptr(),
+            row.len(),
+        )
+    }
+}
+
+/// Fills the rows with the open names, the outermost first, each in [`ROW_SLOTS`] slots as [`open_row`] has it, and writes into the answer's first slot how many were filled: as many as names are open, or
+/// as there is room for. Slots behind these rows are left alone. The stack and the state are as a call of [`read_event`] left them.
+///
+/// 17, exactly where one of these is so: the answer has fewer than [`FILLED_SLOTS`] slots (then nothing is written) or the state fewer than [`STATE_SLOTS`]; the state's depth is above [`MOST_NAMES`] or half
+/// the stack's slots; of a name for which there is room the start is above its end, or its end above the position. The answer is 0 then, and the rows are left alone. In a run it does not come.
+///
+/// ```
+/// use sporebasket::lent;
+///
+/// let (mut state, mut stack) = ([0; lent::STATE_SLOTS], [0; 2 * lent::NAME_SLOTS]);
+/// lent::new(b"<d><t>", lent::default_settings(), &mut state);
+/// for _ in 0..2 {
+///     lent::read_event(b"<d><t>", &mut stack, &mut state, &mut [0; lent::ANSWER_SLOTS]);
+/// }
+/// let (mut rows, mut filled) = ([0; 3 * lent::ROW_SLOTS], [0; lent::FILLED_SLOTS]);
+/// assert_eq!(lent::open_rows(&stack, &state, &mut rows, &mut filled), 0);
+/// assert_eq!((rows, filled), ([1, 2, 1, 4, 5, 2, 0, 0, 0], [2]));
+///
+/// // a stack that holds fewer names than are open
+/// assert_eq!(lent::open_rows(&stack[..2], &state, &mut rows, &mut filled), 17);
+/// assert_eq!(filled, [0]);
+/// ```
+pub fn open_rows(stack: &[usize], state: &[usize], rows: &mut [usize], answer: &mut [usize]) -> usize {
+    // SAFETY: pointers and counts are those of slices, so no pointer is null; the two that are written to are lent exclusively, so they
+    // overlap neither with each other nor with what is read.
+    unsafe {
+        raw::sporebasket_open_rows(
+            stack.as_ptr(),
+            stack.len(),
+            state.as_ptr(),
+            state.len(),
+            rows.as_mut_ptr(),
+            rows.len(),
+            answer.as_mut_ptr(),
+            answer.len(),
+        )
+    }
+}
 
 /// Writes where the bytes of a span stand in the document: its start and its end, or twice the document's end if it does not lie there.
 ///

@@ -32,7 +32,8 @@
 //! [`attributes`](events::attributes) reads those of a tag, and refuses by the numbers 19 to 24. References are handed over as they stand; [`mod@escape`] replaces them, and refuses by
 //! 25 and 26.
 //! With [`check_open_names`](reader::Config::check_open_names) a document that ends while names are open is refused: where
-//! [`Eof`](events::Event::Eof) comes and no error before it, every element was closed. [`Layout`](ext::Layout) counts that each byte of the document is in exactly one part.
+//! [`Eof`](events::Event::Eof) comes and no error before it, every element was closed. Where a run stops,
+//! [`way_down`](ext::ReaderExt::way_down) tells which names are open, and where each was opened. [`Layout`](ext::Layout) counts that each byte of the document is in exactly one part.
 //!
 //! [`mod@feed`] reads a document that comes in chunks, as over a slow line, and gives each event as soon as its bytes are there; [`parser`] has quick-xml's parsers of markup in pieces.
 //!
@@ -67,6 +68,7 @@ pub mod name;
 pub mod parser;
 mod raw;
 pub mod reader;
+mod rows;
 mod run;
 mod time;
 

@@ -29,6 +29,29 @@ extern "C" {
         answer_slots: usize,
     ) -> usize;
 
+    /// Writes the open name of this depth into the row: 0, or the refusal's number.
+    pub fn sporebasket_open_row(
+        stack: *const usize,
+        stack_slots: usize,
+        state: *const usize,
+        state_slots: usize,
+        depth: usize,
+        row: *mut usize,
+        row_slots: usize,
+    ) -> usize;
+
+    /// Fills the rows with the open names, and writes into the answer how many there are: 0, or the refusal's number.
+    pub fn sporebasket_open_rows(
+        stack: *const usize,
+        stack_slots: usize,
+        state: *const usize,
+        state_slots: usize,
+        rows: *mut usize,
+        rows_slots: usize,
+        answer: *mut usize,
+        answer_slots: usize,
+    ) -> usize;
+
     /// Writes where the bytes of a span stand in the document: 0, or the refusal's number.
     pub fn sporebasket_content(
         document: *const u8,
@@ -119,6 +142,12 @@ pub const STATE_SLOTS: usize = 6;
 
 /// The slots of an answer: kind, number, place, piece, content, name, expected and found, a span in two slots.
 pub const ANSWER_SLOTS: usize = 12;
+
+/// The slots of a row: an open name's start, its end and its depth.
+pub const ROW_SLOTS: usize = 3;
+
+/// The slots of the answer for rows: how many were filled.
+pub const FILLED_SLOTS: usize = 1;
 
 /// The slots of a part of the document: its start and its end.
 pub const PART_SLOTS: usize = 2;

@@ -2,7 +2,7 @@
 
 use crate::errors::{Error, Result};
 use crate::events::{BytesText, Event};
-use crate::ext::{Phase, ReaderExt};
+use crate::ext::{Phase, ReaderExt, WayDown};
 use crate::name::QName;
 use crate::raw::{answer, ANSWER_SLOTS, MOST_NAMES, STATE_SLOTS};
 use crate::run::Run;
@@ -371,6 +371,10 @@ impl<'a> ReaderExt<'a> for Reader<&'a [u8]> {
 
     fn open_names(&self) -> impl DoubleEndedIterator<Item = QName<'a>> + ExactSizeIterator + '_ {
         self.run.open_names(self.document)
+    }
+
+    fn way_down(&self) -> WayDown<'a> {
+        self.run.way_down(self.document)
     }
 
     fn phase(&self) -> Phase {

@@ -6,7 +6,8 @@ use crate::events::{At, Content, Event};
 use crate::ext::Phase;
 use crate::lent;
 use crate::name::QName;
-use crate::raw::{answer, state, ANSWER_SLOTS, MOST_NAMES, NAME_SLOTS, STATE_SLOTS};
+use crate::raw::{answer, state, ANSWER_SLOTS, FILLED_SLOTS, MOST_NAMES, NAME_SLOTS, ROW_SLOTS, STATE_SLOTS};
+use crate::rows::WayDown;
 use std::borrow::Cow;
 use std::fmt;
 use std::ops::Range;
@@ -95,7 +96,7 @@ impl Run {
             piece: self.bytes(document, answer::PIECE),
             expected: self.bytes(document, answer::EXPECTED),
             found: self.bytes(document, answer::FOUND),
-            latest: self.entries(document).next_back().unwrap_or_default(),
+            latest: self.entries().next_back().map_or(&[], |span| part(document, span)),
         };
         Error::numbered(if self.made == 0 { number } else { self.made }, told)
     }
@@ -125,16 +126,13 @@ impl Run {
     /// The bytes of a span of the last answer. It lies in the document.
     #[inline]
     pub fn bytes<'d>(&self, document: &'d [u8], slot: usize) -> &'d [u8] {
-        document.get(self.span(slot)).unwrap_or_default()
+        part(document, self.span(slot))
     }
 
-    /// The bytes of the open names, the outermost first.
-    fn entries<'r, 'd: 'r>(
-        &'r self,
-        document: &'d [u8],
-    ) -> impl DoubleEndedIterator<Item = &'d [u8]> + ExactSizeIterator + 'r {
+    /// The spans of the open names, the outermost first.
+    fn entries(&self) -> impl DoubleEndedIterator<Item = Range<usize>> + ExactSizeIterator + '_ {
         let entries = self.stack.chunks_exact(NAME_SLOTS).take(self.depth());
-        entries.map(move |entry| document.get(entry[0]..entry[1]).unwrap_or_default())
+        entries.map(|entry| entry[0]..entry[1])
     }
 
     /// The open names, the outermost first.
@@ -142,9 +140,17 @@ impl Run {
         &'r self,
         document: &'d [u8],
     ) -> impl DoubleEndedIterator<Item = QName<'d>> + ExactSizeIterator + 'r {
-        // a name that was read is UTF-8
-        self.entries(document)
-            .map(|name| QName(str::from_utf8(name).unwrap_or_default()))
+        self.entries().map(move |span| name(document, span))
+    }
+
+    /// The open names with where they stand, as the archive lists them.
+    pub fn way_down<'d>(&self, document: &'d [u8]) -> WayDown<'d> {
+        let mut rows = vec![[0; ROW_SLOTS]; self.depth()];
+        let mut filled = [0; FILLED_SLOTS];
+        // nothing is refused in a run, and there is room for all: as many rows are filled as names are open. A refusal would fill none
+        lent::open_rows(&self.stack, &self.state, rows.as_flattened_mut(), &mut filled);
+        rows.truncate(filled[0]);
+        WayDown::new(document, rows)
     }
 
     #[inline]
@@ -198,6 +204,17 @@ impl Run {
             .field("config", &self.config)
             .finish_non_exhaustive()
     }
+}
+
+/// The bytes of a span that lies in the document.
+#[inline]
+fn part(document: &[u8], span: Range<usize>) -> &[u8] {
+    document.get(span).unwrap_or_default()
+}
+
+/// The open name of this span. A name that was read is UTF-8.
+pub fn name(document: &[u8], span: Range<usize>) -> QName<'_> {
+    QName(str::from_utf8(part(document, span)).unwrap_or_default())
 }
 
 /// How many names a reader has room for at its first call, if it may have as many.

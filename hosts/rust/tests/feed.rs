@@ -225,6 +225,7 @@ impl<'a> Pair<'a> {
         assert_eq!((feeder.expected(), feeder.found()), (reader.expected(), reader.found()));
         assert_eq!(feeder.depth(), reader.depth());
         assert!(feeder.open_names().eq(reader.open_names()));
+        assert!(feeder.way_down().eq(reader.way_down()));
         assert_eq!(feeder.config(), reader.config());
         let come = feeder.document();
         assert_eq!(come, &self.document[..come.len()]);

@@ -86,6 +86,8 @@ fn limits_and_slots() {
     assert_eq!(header.get("NAME_SLOTS"), lent::NAME_SLOTS);
     assert_eq!(header.get("STATE_SLOTS"), lent::STATE_SLOTS);
     assert_eq!(header.get("ANSWER_SLOTS"), lent::ANSWER_SLOTS);
+    assert_eq!(header.get("ROW_SLOTS"), lent::ROW_SLOTS);
+    assert_eq!(header.get("FILLED_SLOTS"), lent::FILLED_SLOTS);
     assert_eq!(header.get("PART_SLOTS"), lent::PART_SLOTS);
     assert_eq!(header.get("ATTRIBUTE_SLOTS"), lent::ATTRIBUTE_SLOTS);
     assert_eq!(header.get("UNESCAPE_SLOTS"), lent::UNESCAPE_SLOTS);
@@ -213,6 +215,31 @@ fn slots_of_a_state_and_of_an_answer() {
     for (slot, value) in slots {
         assert_eq!(answer[header.get(&format!("ANSWER_{slot}"))], value, "{slot}");
     }
+}
+
+#[test]
+fn slots_and_refusals_of_rows() {
+    let header = Header::read();
+    let (state, _) = header.after(1, b"<abc d>", &[]);
+    // the name that is left on the stack
+    let stack = [1, 4];
+    let slots = [("START", 1), ("END", 4), ("DEPTH", 1)];
+    let mut row = vec![0; header.get("ROW_SLOTS")];
+    assert_eq!(lent::open_row(&stack, &state, 1, &mut row), 0);
+    let mut rows = vec![0; header.get("ROW_SLOTS")];
+    let mut answer = vec![0; header.get("FILLED_SLOTS")];
+    assert_eq!(lent::open_rows(&stack, &state, &mut rows, &mut answer), 0);
+    assert_eq!(answer[header.get("FILLED_ROWS")], 1);
+    for (slot, value) in slots {
+        let place = header.get(&format!("ROW_{slot}"));
+        assert_eq!([row[place], rows[place]], [value; 2], "{slot}");
+    }
+    let refusals = [
+        lent::open_row(&stack, &state, 2, &mut row),
+        lent::open_rows(&[], &state, &mut rows, &mut answer),
+    ];
+    assert_eq!(refusals, [header.get("BAD_STATE"); 2]);
+    assert_eq!(answer[header.get("FILLED_ROWS")], 0);
 }
 
 #[test]

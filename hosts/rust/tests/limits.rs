@@ -104,6 +104,12 @@ fn open(reader: &mut Reader<&[u8]>, names: usize) {
     }
     assert_eq!(reader.open_names().len(), names);
     assert!(reader.open_names().all(|name| name == QName("a")));
+    let way = reader.way_down();
+    assert_eq!(way.len(), names);
+    for (row, i) in way.zip(0..) {
+        assert_eq!((row.name, row.depth), (QName("a"), i + 1));
+        assert_eq!(row.span, 3 * i + 1..3 * i + 2);
+    }
 }
 
 /// The name after so many is refused.

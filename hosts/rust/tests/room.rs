@@ -232,5 +232,6 @@ fn a_reader_that_was_not_made_never_is() {
         assert_eq!(common::state(&reader), "init 0 0");
         assert_eq!((reader.piece(), reader.error_position()), (0..0, 0));
         assert_eq!((reader.expected(), reader.found()), (None, None));
+        assert_eq!(reader.way_down().len(), 0);
     }
 }

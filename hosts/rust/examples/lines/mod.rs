@@ -2,7 +2,7 @@
 
 use crate::words::word;
 use sporebasket::events::Event;
-use sporebasket::ext::{ErrorExt, EventExt};
+use sporebasket::ext::{ErrorExt, EventExt, WayDown};
 use sporebasket::lent::{self, ATTRIBUTE_SLOTS, UNESCAPE_SLOTS};
 use sporebasket::Error;
 use std::ffi::OsString;
@@ -17,6 +17,7 @@ pub enum Asked {
     CheckOpenNames,
     Attributes,
     References,
+    Rows,
 }
 
 /// What is asked for, by the first of these words if it is an option, which is then taken.
@@ -25,6 +26,7 @@ pub fn asked(words: &mut Peekable<impl Iterator<Item = OsString>>) -> Asked {
         Some("--check-open-names") => Asked::CheckOpenNames,
         Some("--attributes") => Asked::Attributes,
         Some("--references") => Asked::References,
+        Some("--rows") => Asked::Rows,
         _ => Asked::Nothing,
     };
     if asked != Asked::Nothing {
@@ -79,6 +81,14 @@ impl Told {
 pub fn refused(error: &Error, place: u64, out: &mut impl Write) -> io::Result<()> {
     let number = error.number().unwrap_or_default();
     writeln!(out, "refused {number} {place}")
+}
+
+/// The open names, the outermost first, have a line each: where the name begins, where it ends, and its depth.
+pub fn rows(way: WayDown, out: &mut impl Write) -> io::Result<()> {
+    for row in way {
+        writeln!(out, "row {} {} {}", row.span.start, row.span.end, row.depth)?;
+    }
+    Ok(())
 }
 
 /// How many bytes of its content are an event's name.
