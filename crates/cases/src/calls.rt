@@ -2,6 +2,7 @@
 // those of open rows in `open.rt`.
 use crate::feeds::feed_case;
 use crate::open::open_case;
+use crate::open::outermost_case;
 use crate::says::say_column;
 use crate::says::say_item;
 use crate::says::say_names;
@@ -47,7 +48,7 @@ const PHASES: usize = 6;
 pub fn answer(text: &[u8]) {
     let end = word(text, 0);
     let form = ground::part(text, 0, end);
-    match number_of(form, b"run;state;content;column;attributes;feed;row;rows") {
+    match number_of(form, b"run;state;content;column;attributes;feed;row;rows;outermost") {
         0 => run_case(text, end),
         1 => state_case(text, end),
         2 => content_case(text, end),
@@ -56,6 +57,7 @@ pub fn answer(text: &[u8]) {
         5 => feed_case(text, end),
         6 => open_case(text, end, false),
         7 => open_case(text, end, true),
+        8 => outermost_case(text, end),
         _ => {}
     }
 }

@@ -8,9 +8,10 @@
 //   feed STATE COUNT LEFT SEEN BYTES                                      a scan, fed the bytes between one `|` and the next
 //   row DEPTH POSITION NAMES SLOTS VALUES                                 the open name at a depth, in 4 slots that hold 9999 before
 //   rows ROOM POSITION NAMES SLOTS VALUES                                 the open names, in ROOM slots that hold 9999 before
-// The answers to the last eight stand below the line. NAME is one that `leaves.rt` has. A function that compares has its other bytes in place of the
+//   outermost POSITION NAMES SLOTS VALUES                                 the eight outermost open names, by value
+// The answers to the last nine stand below the line. NAME is one that `leaves.rt` has. A function that compares has its other bytes in place of the
 // second number. SETTINGS are letters of `settings.rt` or `-`. PHASE has a `!` in front where the mark is on, in the answers too. SLOTS is how many slots
-// the lent stack has, at most as many as `calls.rt` has (for `column` and the last two 16, as of ROOM), and VALUES, with commas or `-`, what its first ones hold. In BYTES `\` and two hexadecimal digits
+// the lent stack has, at most as many as `calls.rt` has (for `column` and the last three 16 or 20, as of ROOM 16), and VALUES, with commas or `-`, what its first ones hold. In BYTES `\` and two hexadecimal digits
 // stand for a byte. STATE is a word that `feeds.rt` has. Any other line is written as it is. The cases together have fewer than 327,680 bytes.
 mod calls;
 mod feeds;

@@ -4,9 +4,15 @@ use capi_rows::sporebasket_open_row;
 use capi_rows::sporebasket_open_rows;
 use lines::line::lent;
 use lines::line::number;
+use lines::line::put;
 use lines::line::say;
 use lines::line::say_number;
+use lines::line::say_numbers;
 use lines::line::values;
+use rows::outermost;
+use rows::row::Row;
+use state::place::Depth;
+use state::place::Position;
 
 // The row at a depth, or a list of so many slots. What is asked for, the position, how many names are open, how many slots the stack has and what these hold stand after
 // the space at `from`.
@@ -54,4 +60,33 @@ fn say_told(refusal: usize, told: &[u8]) {
     } else {
         say(told);
     }
+}
+
+// The eight outermost names by value. The position, how many names are open, how many slots the stack has and what these hold stand after the space at `from`.
+pub fn outermost_case(text: &[u8], from: usize) {
+    let position = number(text, from);
+    let names = number(text, position.next);
+    let slots = number(text, names.next);
+    let mut stack = [0usize; 20];
+    values(text, slots.next, &mut stack);
+    let slots = lent(slots.value, &stack);
+    say_rows(&stack[..slots], Position(position.value), Depth(names.value));
+}
+
+fn say_rows(stack: &[usize], position: Position, names: Depth) {
+    let rows = outermost(stack, position, names);
+    let mut i = 0;
+    while i < 8 {
+        say_row(rows[i]);
+        i += 1;
+    }
+    put(b'\n');
+}
+
+fn say_row(row: Row) {
+    let start = row.start;
+    let end = row.end;
+    let depth = row.depth;
+    let numbers = [start.0, end.0, depth.0];
+    say_numbers(b"  #..# #", &numbers);
 }

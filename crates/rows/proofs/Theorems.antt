@@ -22,7 +22,7 @@ use Rattle.rows.specs.declared.row.Row.{Row}
 use Rattle.rows.specs.declared.row.Given.{Given}
 use Rattle.rows.specs.declared.row.Filled.{Filled}
 use Rattle.rows.specs.Answers.{countOf}
-use Rattle.rows.specs.Rows.{rowAt, inOrder, allInOrder, rowOf, planOf, rowsFrom, filledWith, Listed}
+use Rattle.rows.specs.Rows.{rowAt, inOrder, allInOrder, rowOf, planOf, rowsFrom, filledWith, Listed, noRows, outermostOf}
 use Rattle.rows.specs.Words.{Ordered, RefusesOne, RefusesAll, over-capacity, at-nought, above-the-names, out-of-order}
 use Rattle.rows.proofs.Records.{one-over, one-outside, one-above, one-disordered, one-given, one-shows, not-given, one-out-of-order, plan-over, plan-disordered, plan-all}
 use Rattle.rows.proofs.Lists.{plan-gives, plan-fits, rows-length, row-there, filled-length}
@@ -185,3 +185,8 @@ module _ (stack : List ℕ) (position : Position) (names : Depth) (list : List R
   only-one answer″ list″ q =
       let same : answer ≡ answer″ = p .said ∙ sym (q .said) in
       (same, p .rows ∙ ap (λ (f : Filled). filledWith stack (countOf f) list) same ∙ sym (q .rows))
+
+-- THEOREM: the eight records by value are a list that was filled, so all of the above holds of them
+pub the-outermost-are-a-list : (stack : List ℕ) (position : Position) (names : Depth) → Listed stack position names noRows (planOf stack position names 8) (outermostOf stack position names)
+unfolding outermostOf
+the-outermost-are-a-list stack position names = record { said = refl; rows = refl }

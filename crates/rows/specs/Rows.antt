@@ -64,3 +64,16 @@ filledWith stack n list = rowsFrom stack 0 n ++ drop n list
 pub record Listed (stack : List ℕ) (position : Position) (names : Depth) (list : List Row) (answer : Filled) (list' : List Row) : Type 0 where
   pub said : answer ≡ planOf stack position names (length list)
   pub rows : list' ≡ filledWith stack (countOf answer) list
+
+-- ---- a list by value
+
+-- a record that is none's
+abbrev pub noRow : Row
+noRow = record { start = at 0; end = at 0; depth = depthOf 0 }
+
+abbrev pub noRows : List Row
+noRows = noRow ∷ noRow ∷ noRow ∷ noRow ∷ noRow ∷ noRow ∷ noRow ∷ noRow ∷ []
+
+-- a list of eight, filled
+unfoldable pub outermostOf : List ℕ → Position → Depth → List Row
+outermostOf stack position names = filledWith stack (countOf (planOf stack position names 8)) noRows

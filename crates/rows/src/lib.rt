@@ -11,7 +11,7 @@ use state::place::Depth;
 use state::place::Position;
 ghost use mathlib.Core.Path.{_≡_};
 ghost use Prim.Native.Nat.{min};
-ghost use Rattle.rows.specs.Rows.{rowOf, planOf, Listed};
+ghost use Rattle.rows.specs.Rows.{rowOf, planOf, Listed, outermostOf};
 
 // The record of the name at a depth, from 1 on, of so many names that are open.
 pub fn open_row(stack: &[usize], position: Position, names: Depth, depth: Depth) -> Given
@@ -85,4 +85,18 @@ pub fn open_rows(stack: &[usize], position: Position, names: Depth, list: &mut [
         i += 1;
     }
     filled
+}
+
+// The eight outermost records by value, for a caller that lends no list: a record of depth 0 is none, and where it is refused all are.
+pub fn outermost(stack: &[usize], position: Position, names: Depth) -> [Row; 8]
+    ensures { λ r. ⌜ r ≡ outermostOf (now (stack .entry)) position names ⌝ }
+{
+    let none = Row {
+        start: Position(0),
+        end: Position(0),
+        depth: Depth(0),
+    };
+    let mut list = [none; 8];
+    open_rows(stack, position, names, &mut list);
+    list
 }
