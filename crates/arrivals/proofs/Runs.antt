@@ -102,15 +102,20 @@ module _ (Kept : Promise) (advances : Advances Kept) (doc stack : List ℕ) (c :
         calls = Growing.more (h .calls) enough (as-whole doc come yet (w .stack) (w .reader) answer reader left (h .joined) short (h .at) p ready);
       }
 
-  -- THEOREM: calls on a document that arrives in chunks are calls on the whole document, over the stack lent whole from the start
+  -- THEOREM: calls on a document that arrives in chunks are calls on the whole document, over a stack that grows
+  pub arriving-calls-are-growing-calls : {come yet back : List ℕ} {n : ℕ} {w : World} → Arriving Kept doc stack c come yet back n w
+      → Growing Advanced doc stack c back n (over (length doc) w)
+  arriving-calls-are-growing-calls calls = heard calls .calls
+
+  -- THEOREM: so they are calls over the stack lent whole from the start
   pub arriving-calls-are-calls : {come yet back : List ℕ} {n : ℕ} {w : World} → Arriving Kept doc stack c come yet back n w
       → Calls Advanced doc stack c n (lending (over (length doc) w) back)
-  arriving-calls-are-calls calls = growing-calls-are-calls Advanced advance-advances doc stack c (heard calls .calls)
+  arriving-calls-are-calls calls = growing-calls-are-calls Advanced advance-advances doc stack c (arriving-calls-are-growing-calls calls)
 
-  -- THEOREM: so they are the run over the whole document
+  -- THEOREM: and the run over the whole document
   pub arriving-calls-are-a-run : {come yet back : List ℕ} {n : ℕ} {w : World} → Arriving Kept doc stack c come yet back n w
       → lending (over (length doc) w) back ≡ run doc stack c n
-  arriving-calls-are-a-run calls = growing-calls-are-a-run Advanced advance-advances doc stack c (heard calls .calls) .1
+  arriving-calls-are-a-run calls = growing-calls-are-a-run Advanced advance-advances doc stack c (arriving-calls-are-growing-calls calls) .1
 
   -- THEOREM: and its answers are heard
   pub the-answers-of-the-run-are-heard : {come yet back : List ℕ} {n : ℕ} {w : World} → Arriving Kept doc stack c come yet back n w

@@ -1,9 +1,9 @@
 -- What the exported functions answer and leave. Assumes nothing.
-use Prim.Native.Nat.{ℕ, zero, suc, _+_, _*_, _/_, _≤_, _<_}
+use Prim.Native.Nat.{ℕ, _/_, _≤_, _<_}
 use mathlib.Core.Path.{_≡_, refl, sym, ap, _∙_}
-use mathlib.Core.List.{List, [], _∷_, _++_}
+use mathlib.Core.List.{List, [], _∷_}
 use native.Mathlib.Omega.{arith}
-use lib.ListN.{length, getD, set, drop}
+use lib.ListN.{length, set, drop}
 use borrow.Author.Needs.{needs}
 use Rattle.ground.proofs.Choices.{pick-lt, pick-nlt}
 use Rattle.state.specs.Place.{depthOf}
@@ -40,8 +40,8 @@ module _ (s st : List ℕ) (d : ℕ) (xs : List ℕ) where
           let same : Given.Row row ≡ rowIn s st d xs = sym f ∙ is in
           record { said = told (Given.Row row) same .said; row = put ∙ told (Given.Row row) same .row }
 
-      pub row-bad : g ≡ Given.BadState → RowTold s st d xs badNumber xs
-      row-bad f = told Given.BadState (sym f ∙ is)
+      pub row-bad : (number : ℕ) → number ≡ givenNumber g → g ≡ Given.BadState → RowTold s st d xs number xs
+      row-bad number e f = rw (e, f) (told Given.BadState (sym f ∙ is))
 
 pub ruleset ones = (needs, row-short, row-stateless, row-told, row-bad)
 

@@ -1,10 +1,10 @@
--- Rows in slots, and what the exported functions answer. Assumes nothing.
+-- Rows in slots. Assumes nothing.
 use Prim.Native.Nat.{ℕ, zero, suc, _+_, _*_, _/_, _≤_, _<_, _^_}
 use mathlib.Core.Path.{_≡_, refl, sym, ap, _∙_}
 use mathlib.Core.List.{List, [], _∷_, _++_}
 use native.Mathlib.Omega.{arith}
 use native.Mathlib.Numerals.{add-one}
-use lib.ListN.{length, set, take, drop, length-set, length-append, length-drop}
+use lib.ListN.{length, set, drop, length-set, length-append, length-drop}
 use lib.Seq.{sets-eq, take-at, drop-drop, drop-at}
 use borrow.Author.Needs.{needs}
 use Rattle.state.specs.declared.place.Position.{Position}
@@ -15,7 +15,8 @@ use Rattle.rows.specs.declared.row.Given.{Given}
 use Rattle.rows.specs.declared.row.Filled.{Filled}
 use Rattle.rows.specs.Answers.{countOf}
 use Rattle.rows.specs.Rows.{rowAt, rowOf, planOf, rowsFrom}
-use Rattle.rows.proofs.Lists.{plan-gives, plan-fits}
+use Rattle.rows.proofs.Records.{not-given}
+use Rattle.rows.proofs.Lists.{plan-gives, plan-fits, rows-more}
 use Rattle.capi_rows.specs.Rows.{rowSlots, rowNumbers, rowPut, numbersOf, filledWith, Filling}
 
 -- ---- one row written
@@ -42,13 +43,20 @@ unfolding numbersOf rowsFrom
 numbers-length s d zero = refl
 numbers-length s d (suc n) = omega (arith, numbers-length s (d + 1) n)
 
+numbers-append : (rows more : List Row) → numbersOf (rows ++ more) ≡ numbersOf rows ++ numbersOf more
+unfolding numbersOf
+numbers-append [] more = refl
+numbers-append (row ∷ rows) more = ap (λ (ns : List ℕ). rowNumbers row ++ ns) (numbers-append rows more)
+
 -- one row more
-numbers-more : (s : List ℕ) (d n : ℕ) → numbersOf (rowsFrom s d (suc n)) ≡ numbersOf (rowsFrom s d n) ++ rowNumbers (rowAt s (d + n))
-unfolding numbersOf rowsFrom
-numbers-more s d zero = let e : d ≡ d + 0 = omega arith in ap (λ (m : ℕ). rowNumbers (rowAt s m)) e
-numbers-more s d (suc n) =
-    let e : d + 1 + n ≡ d + suc n = omega arith in
-    ap (λ (ns : List ℕ). rowNumbers (rowAt s d) ++ ns) (numbers-more s (d + 1) n ∙ ap (λ (m : ℕ). numbersOf (rowsFrom s (d + 1) n) ++ rowNumbers (rowAt s m)) e)
+numbers-more : (s : List ℕ) (n : ℕ) → numbersOf (rowsFrom s 0 (n + 1)) ≡ numbersOf (rowsFrom s 0 n) ++ rowNumbers (rowAt s n)
+unfolding numbersOf
+numbers-more s n =
+    let none : 0 + n ≡ n = omega arith in
+    ap (λ (k : ℕ). numbersOf (rowsFrom s 0 k)) (add-one n)
+    ∙ ap numbersOf (rows-more s 0 n)
+    ∙ numbers-append (rowsFrom s 0 n) _
+    ∙ ap (λ (k : ℕ). numbersOf (rowsFrom s 0 n) ++ rowNumbers (rowAt s k)) none
 
 filled-next : (s : List ℕ) (i : ℕ) (xs : List ℕ) → rowPut (filledWith s i xs) (i * rowSlots) (rowAt s i) ≡ filledWith s (i + 1) xs
 unfolding filledWith
@@ -56,14 +64,11 @@ filled-next s i xs =
     let front : List ℕ = numbersOf (rowsFrom s 0 i) in
     let back : List ℕ = drop (i * 3) xs in
     let size = numbers-length s 0 i in
-    let none : 0 + i ≡ i = omega arith in
     let up : i * 3 + 3 ≡ (i + 1) * 3 = omega arith in
     let rest : drop (i * 3 + 3) (front ++ back) ≡ drop ((i + 1) * 3) xs =
     sym (drop-drop 3 (i * 3) (front ++ back)) ∙ ap (drop 3) (drop-at front back (i * 3) size) ∙ drop-drop 3 (i * 3) xs ∙ ap (λ (k : ℕ). drop k xs) up in
-    let more : front ++ rowNumbers (rowAt s i) ≡ numbersOf (rowsFrom s 0 (i + 1)) =
-    ap (λ (k : ℕ). front ++ rowNumbers (rowAt s k)) (sym none) ∙ sym (numbers-more s 0 i) ∙ ap (λ (k : ℕ). numbersOf (rowsFrom s 0 k)) (sym (add-one i)) in
     rw (take-at front back (i * 3) size, rest)
-    (ap (λ (ns : List ℕ). ns ++ drop ((i + 1) * 3) xs) more)
+    (ap (λ (ns : List ℕ). ns ++ drop ((i + 1) * 3) xs) (sym (numbers-more s i)))
 
 -- the number of slots stays
 filled-as-long : (s : List ℕ) (n : ℕ) (xs : List ℕ) → n * rowSlots ≤ length xs → length (filledWith s n xs) ≡ length xs
@@ -91,11 +96,14 @@ module _ (s : List ℕ) (p : Position) (n : Depth) (xs : List ℕ) (filled : Fil
     given = told ∙ plan-gives s p n (length xs / rowSlots) i (omega (arith, ap countOf e))
 
     -- it is not refused
+    impossible : g ≡ Given.BadState → ⊥
+    impossible bad = not-given (rowAt s i) (sym given ∙ bad)
+
     pub never : g ≡ Given.BadState → (xs' : List ℕ) → Filling s p n xs filled xs'
-    never bad xs' = let z : _≡_ {A = Given} Given.BadState (Given.Row (rowAt s i)) = sym bad ∙ given in let y : _≡_ {A = ℕ} 0 1 = cc in absurd (omega arith)
+    never bad xs' = absurd (impossible bad)
 
     pub never-shorter : g ≡ Given.BadState → (xs' : List ℕ) → length xs' ≡ length xs
-    never-shorter bad xs' = let z : _≡_ {A = Given} Given.BadState (Given.Row (rowAt s i)) = sym bad ∙ given in let y : _≡_ {A = ℕ} 0 1 = cc in absurd (omega arith)
+    never-shorter bad xs' = absurd (impossible bad)
 
     pub row-more : (row : Row) (ys ys' : List ℕ) → g ≡ Given.Row row → Reached s i xs ys → ys' ≡ rowPut ys (i * rowSlots) row → Reached s (i + 1) xs ys'
     row-more row ys ys' is before put =

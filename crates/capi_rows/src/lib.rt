@@ -44,12 +44,13 @@ pub extern "C" fn sporebasket_open_row(
     }
     let position = Position(state[POSITION]);
     let names = Depth(state[DEPTH]);
-    match open_row(stack, position, names, Depth(depth)) {
+    let given = open_row(stack, position, names, Depth(depth));
+    match given {
         Given::Row(row) => {
             put(slots, 0, row);
             0
         }
-        Given::BadState => BAD_STATE,
+        Given::BadState => given.number(),
     }
 }
 

@@ -11,7 +11,7 @@
 //   outermost POSITION NAMES SLOTS VALUES                                 the eight outermost open names, by value
 // The answers to the last nine stand below the line. NAME is one that `leaves.rt` has. A function that compares has its other bytes in place of the
 // second number. SETTINGS are letters of `settings.rt` or `-`. PHASE has a `!` in front where the mark is on, in the answers too. SLOTS is how many slots
-// the lent stack has, at most as many as `calls.rt` has (for `column` and the last three 16 or 20, as of ROOM 16), and VALUES, with commas or `-`, what its first ones hold. In BYTES `\` and two hexadecimal digits
+// the lent stack has, at most as many as `calls.rt` has (for `column`, `row` and `rows` 16, for `outermost` 20). VALUES, with commas or `-`, are what its first ones hold. ROOM is at most 16. In BYTES `\` and two hexadecimal digits
 // stand for a byte. STATE is a word that `feeds.rt` has. Any other line is written as it is. The cases together have fewer than 327,680 bytes.
 mod calls;
 mod feeds;

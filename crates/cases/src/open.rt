@@ -43,13 +43,13 @@ fn one(stack: &[usize], state: &[usize], depth: usize) {
     say_slots(&row);
 }
 
-// The rows that a list takes, and how many.
+// The rows that a list takes, and how many: two slots that hold 9999 before.
 fn fill(stack: &[usize], state: &[usize], rows: &mut [usize]) {
     let mut answer = [9999usize; 2];
     let refusal = sporebasket_open_rows(stack, state, rows, &mut answer);
     say_told(refusal, b"  rows");
-    say_number(b" ", answer[0]);
-    say(b" |");
+    let told = [answer[0], answer[1]];
+    say_numbers(b" # # |", &told);
     say_slots(rows);
 }
 

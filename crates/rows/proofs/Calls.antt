@@ -1,45 +1,42 @@
 -- The way down after calls of the code, over a stack that grows too. Assumes nothing.
-use Prim.Native.Nat.{ℕ, zero, suc, _+_, _*_, _≤_, _<_, min}
+use Prim.Native.Nat.{ℕ, zero, suc, _+_, _-_, _*_, _≤_, _<_, min}
 use mathlib.Core.Path.{_≡_, refl, sym, ap, ap₂, _∙_, subst}
 use mathlib.Core.Bool.{Bool, true, false}
-use mathlib.Core.Logic.{_⊎_, inl, inr}
-use mathlib.Core.List.{List, [], _∷_, _++_, append-nil}
+use mathlib.Core.Logic.{inl, inr}
+use mathlib.Core.List.{List, [], _∷_, _++_, append-nil, reverse}
 use native.Mathlib.Omega.{arith}
-use lib.ListN.{length, getD, drop, length-append, List·getD-append}
+use lib.ListN.{length, getD, take, drop, replicate, length-append, length-take, length-reverse, length-replicate, List·getD-append}
+use lib.Seq.{getD-take}
 use borrow.Author.Tests.{le-leb}
 use Rattle.ground.specs.Choose.{pick, allOf}
 use Rattle.state.specs.declared.place.Span.{Span}
 use Rattle.state.specs.declared.place.Position.{Position}
 use Rattle.state.specs.declared.place.Depth.{Depth}
 use Rattle.state.specs.declared.config.Config.{Config}
-use Rattle.state.specs.declared.answer.Answer.{Answer}
 use Rattle.state.specs.Limits.{longest, slots, capacity}
-use Rattle.state.specs.Place.{span}
+use Rattle.state.specs.Place.{span, depthOf}
 use Rattle.state.proofs.Room.{capacity-slots}
 use Rattle.state.specs.Make.{fresh}
 use Rattle.reader.specs.Names.{entry}
 use Rattle.demands.specs.Run.{World, said, run}
 use Rattle.demands.specs.Answers.{isStart}
-use Rattle.demands.specs.Open.{opened}
+use Rattle.demands.specs.Open.{leftOpen}
 use Rattle.demands.specs.Calls.{Promise, Advances, Calls}
-use Rattle.demands.specs.Growing.{lending, Enough, Growing}
+use Rattle.demands.specs.Growing.{Enough, Growing}
 use Rattle.demands.proofs.Demand3.{start-adds-its-name, nothing-else-adds, as-many-as-the-depth}
 use Rattle.demands.proofs.Held.{written-length, run-held}
 use Rattle.demands.proofs.Joined.{what-holds-of-a-run-holds-of-calls}
 use Rattle.demands.proofs.Growing.{growing-calls-are-a-run}
 use Rattle.demands.proofs.Longer.{capacity-grows}
 use Rattle.rows.specs.declared.row.Row.{Row}
+use Rattle.rows.specs.declared.row.Given.{Given}
 use Rattle.rows.specs.declared.row.Filled.{Filled}
 use Rattle.rows.specs.Answers.{countOf}
-use Rattle.rows.specs.Rows.{rowAt, recordOf, allInOrder, fits, planOf, rowsFrom, filledWith, Listed}
-use Rattle.rows.specs.Words.{Shows}
+use Rattle.rows.specs.Rows.{recordOf, rowOf, planOf, rowsFrom, filledWith, Listed}
+use Rattle.rows.specs.Words.{numbered, wayDown, WayShown}
 use Rattle.rows.proofs.Lists.{plan-fits}
-use Rattle.rows.proofs.Theorems.{same-in-order}
-use Rattle.rows.proofs.Way.{the-records-are-the-way-down}
-
--- a list that is lent there shows the way down
-abbrev WayShown : World → Type 0
-WayShown w = (list : List Row) (answer : Filled) (list' : List Row) → Listed (w .stack) (w .reader .position) (w .reader .depth) list answer list' → Shows (w .answers) list answer list'
+use Rattle.rows.proofs.Theorems.{same-in-order, each-record-is-the-one-of-its-depth}
+use Rattle.rows.proofs.Way.{numbered-length, the-records-are-the-way-down}
 
 module _ (Kept : Promise) (advances : Advances Kept) (doc stack : List ℕ) (c : Config) where
   -- THEOREM: after any number of calls, the records are the way down that their answers tell
@@ -122,3 +119,26 @@ module _ (Kept : Promise) (advances : Advances Kept) (doc stack : List ℕ) (c :
       let runs = growing-calls-are-a-run Kept advances doc stack c calls in
       let all = slots-behind-the-stack-change-nothing (w .stack) back (w .reader .depth) (lent-deep calls) (w .reader .position) list answer list' p in
       subst WayShown (sym (runs .1)) (the-records-are-the-way-down doc stack c (runs .0) n) list answer list' all
+
+-- ---- one record
+
+-- THEOREM: where lists show the way down, so does one record by its depth: from 1 to the names open none is refused, and each is that of the way down
+pub where-lists-show-the-way-so-does-a-record : (w : World) → WayShown w → (depth : Depth) (any : Row) → 1 ≤ depth .0 → depth .0 ≤ length (leftOpen (w .answers))
+    → rowOf (w .stack) (w .reader .position) (w .reader .depth) depth ≡ Given.Row (getD (wayDown (w .answers)) (depth .0 - 1) any)
+unfolding wayDown
+where-lists-show-the-way-so-does-a-record w shown depth any some below =
+    let list : List Row = replicate (depth .0) any in
+    let i : ℕ = depth .0 - 1 in
+    let up : depthOf (i + 1) ≡ depth = ap depthOf (omega arith) in
+    let long = length-replicate (depth .0) any in
+    let way : List Row = numbered 1 (reverse (leftOpen (w .answers))) in
+    let whole : length way ≡ length (leftOpen (w .answers)) = numbered-length 1 (reverse (leftOpen (w .answers))) ∙ length-reverse (leftOpen (w .answers)) in
+    let p : Listed (w .stack) (w .reader .position) (w .reader .depth) list _ _ = record { said = refl; rows = refl } in
+    let s = shown list _ _ p in
+    let e = each-record-is-the-one-of-its-depth (w .stack) (w .reader .position) (w .reader .depth) list _ _ p i any (omega (arith, ap countOf (s .count), long)) in
+    ap (rowOf (w .stack) (w .reader .position) (w .reader .depth)) (sym up)
+    ∙ e
+    ∙ ap Given.Row
+    (ap (λ (l : List Row). getD l i any) (s .rows)
+    ∙ List·getD-append (take (length list) way) (drop (length (leftOpen (w .answers))) list) any i (omega (arith, length-take (length list) way, long, whole))
+    ∙ getD-take (length list) way i any (omega (arith, long)))

@@ -6,7 +6,6 @@ use mathlib.Core.List.{List, [], _∷_, _++_}
 use native.Mathlib.Omega.{arith}
 use native.Mathlib.Numerals.{add-one}
 use lib.ListN.{length, getD, set, drop}
-use lib.Dec.{leb}
 use borrow.Author.Tests.{leb-true}
 use Rattle.ground.specs.Choose.{pick, allOf}
 use Rattle.ground.proofs.Choices.{both, pick-cases}
@@ -35,7 +34,7 @@ module _ (s : List ℕ) (p : Position) (n : Depth) (room : ℕ) where
   unfolding planOf
   plan-gives i =
       planned _ i (λ e h.
-      let t = both (fits s p n) _ e in
+      let t = both (fits s n) _ e in
       let o = each-in-order s p (min (n .0) room) i h (both (allInOrder s p (min (n .0) room)) true (t .1) .0) in
       let back : i + 1 - 1 ≡ i = omega arith in
       one-given s p n (depthOf (i + 1)) (leb-true (n .0) (capacity (length s)) (t .0)) (omega arith) (omega arith) (rw back o) ∙ ap (λ (m : ℕ). Given.Row (rowAt s m)) back)
@@ -44,7 +43,7 @@ module _ (s : List ℕ) (p : Position) (n : Depth) (room : ℕ) where
   pub plan-fits : countOf (planOf s p n room) ≤ min (n .0) room
   unfolding planOf
   plan-fits =
-      pick-cases (λ (f : Filled). countOf f ≤ min (n .0) room) (allOf (fits s p n ∷ allInOrder s p (min (n .0) room) ∷ [])) (Filled.Rows (min (n .0) room)) Filled.BadState (λ _. omega arith) (λ _. omega arith)
+      pick-cases (λ (f : Filled). countOf f ≤ min (n .0) room) (allOf (fits s n ∷ allInOrder s p (min (n .0) room) ∷ [])) (Filled.Rows (min (n .0) room)) Filled.BadState (λ _. omega arith) (λ _. omega arith)
 
 -- ---- one record more
 
@@ -52,6 +51,13 @@ pub rows-length : (stack : List ℕ) (d n : ℕ) → length (rowsFrom stack d n)
 unfolding rowsFrom
 rows-length stack d zero = refl
 rows-length stack d (suc n) = ap suc (rows-length stack (d + 1) n)
+
+pub rows-more : (stack : List ℕ) (d n : ℕ) → rowsFrom stack d (suc n) ≡ rowsFrom stack d n ++ (rowAt stack (d + n) ∷ [])
+unfolding rowsFrom
+rows-more stack d zero = let e : d ≡ d + 0 = omega arith in ap (λ (m : ℕ). rowAt stack m ∷ []) e
+rows-more stack d (suc n) =
+    let e : d + 1 + n ≡ d + suc n = omega arith in
+    ap (λ (rows : List Row). rowAt stack d ∷ rows) (rows-more stack (d + 1) n ∙ ap (λ (m : ℕ). rowsFrom stack (d + 1) n ++ (rowAt stack m ∷ [])) e)
 
 from-there : (stack : List ℕ) (d n i : ℕ) (any : Row) → i < n → getD (rowsFrom stack d n) i any ≡ rowAt stack (d + i)
 unfolding rowsFrom

@@ -2,7 +2,6 @@
 use Prim.Native.Nat.{ℕ, zero, suc, _+_, _-_, _*_, _≤_, _<_, _^_, min}
 use mathlib.Core.Path.{_≡_, refl, sym, ap, _∙_, subst}
 use mathlib.Core.Bool.{Bool, true, false}
-use mathlib.Core.Logic.{_⊎_, inl, inr}
 use mathlib.Core.List.{List, [], _∷_, _++_}
 use native.Mathlib.Omega.{arith}
 use native.Mathlib.Numerals.{add-one}
@@ -12,17 +11,15 @@ use lib.Dec.{leb}
 use borrow.Author.Needs.{needs}
 use borrow.Author.Tests.{le-leb, lt-leb, leb-true}
 use Rattle.ground.specs.Choose.{pick, allOf}
-use Rattle.ground.proofs.Choices.{clash, must-fail, both, pick-cases}
+use Rattle.ground.proofs.Choices.{clash, must-fail, both}
 use Rattle.state.specs.declared.place.Position.{Position}
 use Rattle.state.specs.declared.place.Depth.{Depth}
 use Rattle.state.specs.Limits.{slots, capacity}
 use Rattle.state.specs.Place.{at, depthOf}
 use Rattle.state.proofs.Room.{told-slots}
-use Rattle.reader.specs.Names.{entry}
 use Rattle.rows.specs.declared.row.Row.{Row}
 use Rattle.rows.specs.declared.row.Given.{Given}
 use Rattle.rows.specs.declared.row.Filled.{Filled}
-use Rattle.rows.specs.Answers.{countOf}
 use Rattle.rows.specs.Rows.{rowAt, inOrder, allInOrder, fits, rowOf, planOf}
 
 -- ---- tests that all have to pass, of which one fails
@@ -48,23 +45,23 @@ module _ (s : List ℕ) (p : Position) (n d : Depth) where
   abbrev reached : Bool
   reached = leb (d .0) (n .0)
 
-  one-bad : allOf (fits s p n ∷ some ∷ reached ∷ inOrder s p (d .0 - 1) ∷ []) ≡ false → Given.BadState ≡ rowOf s p n d
+  one-bad : allOf (fits s n ∷ some ∷ reached ∷ inOrder s p (d .0 - 1) ∷ []) ≡ false → Given.BadState ≡ rowOf s p n d
   unfolding rowOf
   one-bad e = rw e refl
 
   pub one-over : (k : Depth) → k ≡ depthOf (capacity (length s)) → k .0 < n .0 → Given.BadState ≡ rowOf s p n d
   one-over k e h =
-      one-bad (fails [] (some ∷ reached ∷ inOrder s p (d .0 - 1) ∷ []) (fits s p n)
+      one-bad (fails [] (some ∷ reached ∷ inOrder s p (d .0 - 1) ∷ []) (fits s n)
       (lt-leb (n .0) (capacity (length s)) (omega (arith, ap (λ (x : Depth). x .0) e))))
 
   pub one-outside : d .0 ≡ 0 → Given.BadState ≡ rowOf s p n d
-  one-outside e = one-bad (fails (fits s p n ∷ []) (reached ∷ inOrder s p (d .0 - 1) ∷ []) some (lt-leb 1 (d .0) (omega arith)))
+  one-outside e = one-bad (fails (fits s n ∷ []) (reached ∷ inOrder s p (d .0 - 1) ∷ []) some (lt-leb 1 (d .0) (omega arith)))
 
   pub one-above : n .0 < d .0 → Given.BadState ≡ rowOf s p n d
-  one-above h = one-bad (fails (fits s p n ∷ some ∷ []) (inOrder s p (d .0 - 1) ∷ []) reached (lt-leb (d .0) (n .0) h))
+  one-above h = one-bad (fails (fits s n ∷ some ∷ []) (inOrder s p (d .0 - 1) ∷ []) reached (lt-leb (d .0) (n .0) h))
 
   pub one-disordered : inOrder s p (d .0 - 1) ≡ false → Given.BadState ≡ rowOf s p n d
-  one-disordered e = one-bad (fails (fits s p n ∷ some ∷ reached ∷ []) [] (inOrder s p (d .0 - 1)) e)
+  one-disordered e = one-bad (fails (fits s n ∷ some ∷ reached ∷ []) [] (inOrder s p (d .0 - 1)) e)
 
   pub one-crossed : to < from → Given.BadState ≡ rowOf s p n d
   one-crossed h = one-disordered (fails [] (leb to (p .0) ∷ []) (leb from to) (lt-leb from to h))
@@ -123,7 +120,7 @@ module _ (s : List ℕ) (p : Position) (n d : Depth) where
   unfolding rowOf
   one-shows row e =
       let t = passes _ (rowAt s (d .0 - 1)) row e in
-      let a = both (fits s p n) _ (t .0) in
+      let a = both (fits s n) _ (t .0) in
       let b = both (some s p n d) _ (a .1) in
       let c = both (reached s p n d) _ (b .1) in
       let o = both (inOrder s p (d .0 - 1)) true (c .1) in
@@ -178,7 +175,7 @@ module _ (s : List ℕ) (p : Position) (n : Depth) (room : ℕ) where
   -- an entry that is read is out of order
   pub plan-disordered : allInOrder s p (min (n .0) room) ≡ false → Filled.BadState ≡ planOf s p n room
   unfolding planOf
-  plan-disordered e = rw (fails (fits s p n ∷ []) [] (allInOrder s p (min (n .0) room)) e) refl
+  plan-disordered e = rw (fails (fits s n ∷ []) [] (allInOrder s p (min (n .0) room)) e) refl
 
   pub plan-all : n .0 ≤ capacity (length s) → allInOrder s p (min (n .0) room) ≡ true → Filled.Rows (min (n .0) room) ≡ planOf s p n room
   unfolding planOf

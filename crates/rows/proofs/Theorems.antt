@@ -1,7 +1,7 @@
 -- What whoever calls knows of one record and of a list, from their promises alone. Assumes nothing.
 use Prim.Native.Nat.{ℕ, zero, suc, _+_, _-_, _≤_, _<_, min}
 use mathlib.Core.Path.{_≡_, refl, sym, ap, ap₂, _∙_}
-use mathlib.Core.Bool.{Bool, true, false}
+use mathlib.Core.Bool.{Bool, true, false, not}
 use mathlib.Core.Logic.{_↔_}
 use mathlib.Core.List.{List, [], _∷_, _++_}
 use native.Mathlib.Omega.{arith}
@@ -11,7 +11,7 @@ use lib.Seq.{getD-append-add, getD-drop}
 use lib.Dec.{leb}
 use borrow.Author.Tests.{le-leb, leb-true}
 use Rattle.ground.specs.Choose.{pick, allOf}
-use Rattle.ground.proofs.Choices.{clash, must-fail, both}
+use Rattle.ground.proofs.Choices.{clash, must-fail, not-true, not-false, both}
 use Rattle.state.specs.declared.place.Span.{Span}
 use Rattle.state.specs.declared.place.Position.{Position}
 use Rattle.state.specs.declared.place.Depth.{Depth}
@@ -33,7 +33,7 @@ module _ (stack : List ℕ) (position : Position) (d : ℕ) where
   ordered-passes : Ordered stack position d → inOrder stack position d ≡ true
   ordered-passes o = rw (le-leb _ _ (o .ordered), le-leb _ _ (o .behind)) refl
 
-  passed-ordered : inOrder stack position d ≡ true → Ordered stack position d
+  pub passed-ordered : inOrder stack position d ≡ true → Ordered stack position d
   passed-ordered e =
       let t = both (leb (entry stack d .from) (entry stack d .to)) _ e in
       record { ordered = leb-true _ _ (t .0); behind = leb-true _ _ (both (leb (entry stack d .to) (position .0)) true (t .1) .0) }
@@ -120,12 +120,8 @@ module _ (stack : List ℕ) (position : Position) (names : Depth) where
     else-the-lesser-of-names-and-room n =
         elim (decLt (capacity (length stack)) (names .0)) [
           | yes h ↦ absurd (n (over-capacity h))
-          | no h ↦ sym (plan-all stack position names room (omega arith) (must-pass (allInOrder stack position (min (names .0) room)) (λ f. n (why-all (sym (plan-disordered stack position names room f))))))
+          | no h ↦ sym (plan-all stack position names room (omega arith) (not-false _ (must-fail (not (allInOrder stack position (min (names .0) room))) (λ f. n (why-all (sym (plan-disordered stack position names room (not-true _ f))))))))
         ]
-      where
-        must-pass : (t : Bool) → (t ≡ false → ⊥) → t ≡ true
-        must-pass true f = refl
-        must-pass false f = absurd (f refl)
 
 pub same-in-order : (stack other : List ℕ) (position : Position) (n : ℕ) → ((d : ℕ) → d < n → entry stack d ≡ entry other d) → allInOrder stack position n ≡ allInOrder other position n
 unfolding allInOrder

@@ -1,12 +1,11 @@
 -- In a run no record and no list is refused, and the records are the way down that the answers tell. Assumes nothing.
-use Prim.Native.Nat.{ℕ, zero, suc, _+_, _-_, _*_, _≤_, _<_, min}
+use Prim.Native.Nat.{ℕ, zero, suc, _+_, _-_, _≤_, _<_, min}
 use mathlib.Core.Path.{_≡_, refl, sym, ap, ap₂, _∙_, subst}
 use mathlib.Core.Bool.{true}
-use mathlib.Core.Logic.{inl, inr}
 use mathlib.Core.List.{List, [], _∷_, _++_, map, reverse, reverse-cons}
 use native.Mathlib.Omega.{arith}
 use native.Mathlib.Decide.{decLt}
-use lib.ListN.{length, getD, take, drop, length-take, length-reverse, drop-of-length-le, List·getD-append, length-append}
+use lib.ListN.{length, getD, take, drop, length-take, length-reverse, drop-of-length-le}
 use lib.Seq.{take-at, take-all}
 use borrow.Author.Tests.{le-leb}
 use Rattle.state.specs.declared.place.Span.{Span}
@@ -14,10 +13,11 @@ use Rattle.state.specs.declared.place.Position.{Position}
 use Rattle.state.specs.declared.place.Depth.{Depth}
 use Rattle.state.specs.declared.config.Config.{Config}
 use Rattle.state.specs.declared.answer.Answer.{Answer}
-use Rattle.state.specs.Limits.{longest, slots, capacity}
+use Rattle.state.specs.Limits.{longest, capacity}
+use Rattle.state.specs.Place.{depthOf}
 use Rattle.reader.specs.Names.{entry, bytes}
 use Rattle.demands.specs.Run.{World, run}
-use Rattle.demands.specs.Open.{entries, opened, leftOpen}
+use Rattle.demands.specs.Open.{entries, leftOpen}
 use Rattle.demands.proofs.Held.{Behind, entries-length, run-held}
 use Rattle.rows.specs.declared.row.Row.{Row}
 use Rattle.rows.specs.declared.row.Given.{Given}
@@ -25,10 +25,16 @@ use Rattle.rows.specs.declared.row.Filled.{Filled}
 use Rattle.rows.specs.Answers.{countOf}
 use Rattle.rows.specs.Rows.{recordOf, rowAt, inOrder, allInOrder, rowOf, planOf, rowsFrom, filledWith, Listed}
 use Rattle.rows.specs.Words.{numbered, wayDown, Shows, nameIn}
-use Rattle.rows.proofs.Records.{one-given, plan-all}
-use Rattle.rows.proofs.Lists.{rows-length}
+use Rattle.rows.proofs.Records.{one-given, one-shows, plan-all}
+use Rattle.rows.proofs.Lists.{rows-length, rows-more}
+use Rattle.rows.proofs.Theorems.{passed-ordered, a-record-is-its-entry, each-record-is-the-one-of-its-depth}
 
 -- ---- names, the outermost first
+
+pub numbered-length : (depth : ℕ) (names : List Span) → length (numbered depth names) ≡ length names
+unfolding numbered
+numbered-length depth [] = refl
+numbered-length depth (name ∷ names) = ap suc (numbered-length (suc depth) names)
 
 -- one more name is the last
 numbered-more : (depth : ℕ) (names : List Span) (name : Span) → numbered depth (names ++ (name ∷ [])) ≡ numbered depth names ++ (recordOf name (depth + length names) ∷ [])
@@ -37,13 +43,6 @@ numbered-more depth [] name = let e : depth ≡ depth + 0 = omega arith in ap (�
 numbered-more depth (first ∷ names) name =
     let e : suc depth + length names ≡ depth + suc (length names) = omega arith in
     ap (λ (rows : List Row). recordOf first depth ∷ rows) (numbered-more (suc depth) names name ∙ ap (λ (m : ℕ). numbered (suc depth) names ++ (recordOf name m ∷ [])) e)
-
-rows-more : (stack : List ℕ) (d n : ℕ) → rowsFrom stack d (suc n) ≡ rowsFrom stack d n ++ (rowAt stack (d + n) ∷ [])
-unfolding rowsFrom
-rows-more stack d zero = let e : d ≡ d + 0 = omega arith in ap (λ (m : ℕ). rowAt stack m ∷ []) e
-rows-more stack d (suc n) =
-    let e : d + 1 + n ≡ d + suc n = omega arith in
-    ap (λ (rows : List Row). rowAt stack d ∷ rows) (rows-more stack (d + 1) n ∙ ap (λ (m : ℕ). rowsFrom stack (d + 1) n ++ (rowAt stack m ∷ [])) e)
 
 -- the records of d names are those that the stack has, turned round
 entries-down : (stack : List ℕ) (d : ℕ) → rowsFrom stack 0 d ≡ numbered 1 (reverse (entries stack d))
@@ -157,6 +156,15 @@ module _ (doc stack : List ℕ) (c : Config) (short : length doc ≤ longest) (n
             ∙ ap₂ _++_ (the-first-rows (length list)) (drop-least (w .reader .depth .0) list ∙ ap (λ (d : ℕ). drop d list) as-many-open);
       }
 
+  -- THEOREM: each of them lies in the document
+  pub each-record-lies-in-the-document : (list : List Row) (answer : Filled) (list' : List Row) → Listed (w .stack) (w .reader .position) (w .reader .depth) list answer list'
+      → (i : ℕ) (any : Row) → i < countOf answer → (getD list' i any .start .0 ≤ getD list' i any .end .0) × (getD list' i any .end .0 ≤ length doc)
+  each-record-lies-in-the-document list answer list' p i any h =
+      let e = each-record-is-the-one-of-its-depth (w .stack) (w .reader .position) (w .reader .depth) list answer list' p i any h in
+      let is = a-record-is-its-entry (w .stack) (w .reader .position) (w .reader .depth) (depthOf (i + 1)) (getD list' i any) e in
+      let o = passed-ordered (w .stack) (w .reader .position) (i + 1 - 1) (one-shows (w .stack) (w .reader .position) (w .reader .depth) (depthOf (i + 1)) (getD list' i any) e .ordered) in
+      (omega (arith, is .0, is .1, o .ordered), omega (arith, is .1, o .behind, run-held doc c short stack n .in-doc))
+
 -- ---- the bytes of the records
 
 module _ (doc : List ℕ) where
@@ -168,11 +176,6 @@ module _ (doc : List ℕ) where
   numbered-bytes depth zero names = refl
   numbered-bytes depth (suc room) [] = refl
   numbered-bytes depth (suc room) (name ∷ names) = ap (λ (bs : List (List ℕ)). bytes doc name ∷ bs) (numbered-bytes (suc depth) room names)
-
-  numbered-length : (depth : ℕ) (names : List Span) → length (numbered depth names) ≡ length names
-  unfolding numbered
-  numbered-length depth [] = refl
-  numbered-length depth (name ∷ names) = ap suc (numbered-length (suc depth) names)
 
   -- THEOREM: "their bytes are the names that the answers given so far say"
   pub their-bytes-are-the-names-told : (answers : List Answer) (list : List Row) (answer : Filled) (list' : List Row) → Shows answers list answer list'

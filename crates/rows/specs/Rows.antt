@@ -21,12 +21,16 @@ use Rattle.rows.specs.Answers.{countOf}
 abbrev pub recordOf : Span → ℕ → Row
 recordOf name depth = record { start = at (name .from); end = at (name .to); depth = depthOf depth }
 
--- the record of the name with d names below it: its "depth (from 1)" is one more
+-- the record of the name with d names around it: its "depth (from 1)" is one more
 abbrev pub rowAt : List ℕ → ℕ → Row
 rowAt stack d = recordOf (entry stack d) (d + 1)
 
+-- not: "depth is over capacity"
+abbrev pub fits : List ℕ → Depth → Bool
+fits stack names = leb (names .0) (capacity (length stack))
+
 module _ (stack : List ℕ) (position : Position) where
-  -- not: "any entry read is not start ≤ end ≤ position"
+  -- an entry that is "start ≤ end ≤ position"
   abbrev pub inOrder : ℕ → Bool
   inOrder d = allOf (leb (entry stack d .from) (entry stack d .to) ∷ leb (entry stack d .to) (position .0) ∷ [])
 
@@ -36,22 +40,18 @@ module _ (stack : List ℕ) (position : Position) where
   allInOrder (suc n) = allOf (allInOrder n ∷ inOrder n ∷ [])
 
   module _ (names : Depth) where
-    -- not: "depth is over capacity"
-    abbrev pub fits : Bool
-    fits = leb (names .0) (capacity (length stack))
-
     -- "one record by its depth (17 for depth 0 or above the names open)"
     unfoldable pub rowOf : Depth → Given
     rowOf depth =
-        pick (allOf (fits ∷ leb 1 (depth .0) ∷ leb (depth .0) (names .0) ∷ inOrder (depth .0 - 1) ∷ []))
+        pick (allOf (fits stack names ∷ leb 1 (depth .0) ∷ leb (depth .0) (names .0) ∷ inOrder (depth .0 - 1) ∷ []))
         (Given.Row (rowAt stack (depth .0 - 1)))
         Given.BadState
 
     -- "answer how many were filled: the lesser of names open and room"; 17 by what stands above, of the entries that are read
     unfoldable pub planOf : ℕ → Filled
-    planOf room = pick (allOf (fits ∷ allInOrder (min (names .0) room) ∷ [])) (Filled.Rows (min (names .0) room)) Filled.BadState
+    planOf room = pick (allOf (fits stack names ∷ allInOrder (min (names .0) room) ∷ [])) (Filled.Rows (min (names .0) room)) Filled.BadState
 
--- the records of the n names from the one with d below it, "outermost name first"
+-- the records of the n names from the one with d around it, "outermost name first"
 unfoldable pub rowsFrom : List ℕ → ℕ → ℕ → List Row
 rowsFrom stack d zero = []
 rowsFrom stack d (suc n) = rowAt stack d ∷ rowsFrom stack (d + 1) n

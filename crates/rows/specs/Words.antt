@@ -10,12 +10,13 @@ use Rattle.state.specs.declared.answer.Answer.{Answer}
 use Rattle.state.specs.Limits.{capacity}
 use Rattle.state.specs.Place.{span}
 use Rattle.reader.specs.Names.{entry}
+use Rattle.demands.specs.Run.{World}
 use Rattle.demands.specs.Open.{leftOpen}
 use Rattle.rows.specs.declared.row.Row.{Row}
 use Rattle.rows.specs.declared.row.Filled.{Filled}
-use Rattle.rows.specs.Rows.{recordOf}
+use Rattle.rows.specs.Rows.{recordOf, Listed}
 
--- "start ≤ end ≤ position", of the name with d names below it
+-- "start ≤ end ≤ position", of the name with d names around it
 pub record Ordered (stack : List ℕ) (position : Position) (d : ℕ) : Type 0 where
   pub ordered : entry stack d .from ≤ entry stack d .to
   pub behind : entry stack d .to ≤ position .0
@@ -48,6 +49,11 @@ wayDown answers = numbered 1 (reverse (leftOpen answers))
 pub record Shows (answers : List Answer) (list : List Row) (answer : Filled) (list' : List Row) : Type 0 where
   pub count : answer ≡ Filled.Rows (min (length (leftOpen answers)) (length list))
   pub rows : list' ≡ take (length list) (wayDown answers) ++ drop (length (leftOpen answers)) list
+
+-- whatever list is lent where a run stands, it shows the way down
+abbrev pub WayShown : World → Type 0
+WayShown w =
+    (list : List Row) (answer : Filled) (list' : List Row) → Listed (w .stack) (w .reader .position) (w .reader .depth) list answer list' → Shows (w .answers) list answer list'
 
 -- where the bytes of a record's name stand
 abbrev pub nameIn : Row → Span

@@ -1,7 +1,7 @@
 -- After a host's calls its rows are the way down. Assumes nothing.
-use Prim.Native.Nat.{ℕ, zero, suc, _+_, _-_, _*_, _/_, _≤_, _<_, min}
-use mathlib.Core.Path.{_≡_, refl, sym, ap, ap₂, _∙_, subst}
-use mathlib.Core.List.{List, [], _∷_, _++_}
+use Prim.Native.Nat.{ℕ, suc, _+_, _-_, _*_, _/_, _≤_, min}
+use mathlib.Core.Path.{_≡_, refl, sym, ap, _∙_}
+use mathlib.Core.List.{List, _∷_, _++_}
 use native.Mathlib.Omega.{arith}
 use lib.ListN.{length, getD, take, drop}
 use lib.Seq.{getD-take}
@@ -12,11 +12,8 @@ use Rattle.state.specs.declared.run.Reader.{Reader}
 use Rattle.state.specs.Limits.{longest, capacity}
 use Rattle.state.specs.Make.{fresh}
 use Rattle.state.specs.Place.{depthOf}
-use Rattle.reader.specs.Names.{written}
 use Rattle.reader.specs.Step.{step}
 use Rattle.demands.specs.Run.{World, run}
-use Rattle.demands.specs.Open.{leftOpen}
-use Rattle.demands.specs.Growing.{Enough}
 use Rattle.demands.proofs.Held.{written-length, run-held}
 use Rattle.rows.specs.declared.row.Row.{Row}
 use Rattle.rows.specs.declared.row.Filled.{Filled}
@@ -29,7 +26,7 @@ use Rattle.rows.proofs.Lists.{plan-gives, row-there}
 use Rattle.rows.proofs.Way.{no-list-is-refused, as-many-open, the-first-rows}
 use Rattle.capi.specs.declared.slots.Held.{Held}
 use Rattle.capi.specs.Numbers.{configOf, heldOf}
-use Rattle.capi.specs.Calls.{lentTo, stackTo, Called}
+use Rattle.capi.specs.Calls.{lentTo, stackTo}
 use Rattle.capi.specs.Hosts.{Host, namesOpen, Follows}
 use Rattle.capi.specs.Growing.{hostLending, HostGrowing}
 use Rattle.capi.proofs.Growing.{a-growing-host's-calls-are-a-run}

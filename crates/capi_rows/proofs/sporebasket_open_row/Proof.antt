@@ -15,6 +15,7 @@ sporebasket-open-row-spec =
     (λ c. search ones)
     (λ c κs. search ones)
     (λ c. search ones)
+    (λ c κs. search ones)
     (λ c. search ones)
     (λ c. search ones)
     (λ c. search ones))

@@ -233,7 +233,7 @@ module _ {M : Type 1} (𝓤 : URA M) (H : Heap 𝓤) (A : Atoms 𝓤) (W : Kit �
   goes-count : Is F.the-row f (fv ∷ []) → ent 𝓤 (emp 𝓤) (Count 𝓤 H A mem run .pre to-count)
   goes-count is = qed W [] ∵ nothing ! $ owned ! F.the-row (Is F.the-row) (EL.makes F.the-type F′.the-plain 𝓤 H A) f _ is $ fjoin ! $ nothing ! $ join ! $ nothing ! $ move ! (1 ∷ 0 ∷ []) $ done !
 
-  -- the depth of the name with i below it
+  -- the depth of the name with i names around it
   abbrev below : ℕ → Depth
   below i = depthOf (i + 1)
 
