@@ -1,4 +1,4 @@
-/* Sporebasket: a verified reader of XML events, of attributes, of references, and of columns of times, the names that are open, and scans of input that comes in pieces. Link
+/* Sporebasket: a verified reader of XML events, of attributes, of references and of columns of times, which tells the names that are open, and scans of input that comes in pieces. Link
  * libsporebasket.a, which `tools/host-staticlib capi` makes.
  *
  * The host lends all memory: the document, a stack for the open names, the state of a reader or of a scan, a buffer, a column, a list of rows and room for an answer. Nothing is kept between
@@ -263,7 +263,7 @@ size_t sporebasket_open_row(const size_t *stack, size_t stack_slots, const size_
                             size_t row_slots);
 
 /* Lists the open names, the way down to where a run stands or stopped: fills `rows` from its first slot on, SPOREBASKET_ROW_SLOTS slots to a row, the outermost name first, and writes into the answer how
- * many rows were filled: as many as names are open, or as the list has room for, if that is less. Slots behind these rows are left alone, one or two at the end that are no whole row too. The stack and the state
+ * many rows were filled: as many as names are open, or as the list has room for, if that is less. Slots behind these rows are left alone, and so are one or two slots at the end that make no whole row. The stack and the state
  * are a reader's, between any two calls, and are only read; of the state POSITION and DEPTH alone are looked at. A list of 3 * DEPTH slots has room for all.
  * 17, exactly where one of these is so:
  * - The answer has fewer than SPOREBASKET_FILLED_SLOTS slots. Then nothing is written, not even the answer.

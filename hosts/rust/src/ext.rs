@@ -132,7 +132,7 @@ pub trait ReaderExt<'a>: sealed::Sealed + Sized {
     fn open_names(&self) -> impl DoubleEndedIterator<Item = QName<'a>> + ExactSizeIterator + '_;
 
     /// The way down to where the reader stands: the open names, the outermost first, each with where it stands in the document and how deep it is. These are the rows that the archive lists; that they are the
-    /// names which the answers so far left open is proved (docs/PROMISES.md).
+    /// names which the answers so far left open is proved of runs whose settings stay, whatever these are (docs/PROMISES.md), and tested where they change.
     ///
     /// After a refusal it is the way down to what was refused. A closing tag that was refused for its name (10) has closed the latest name nevertheless: [`expected`](ReaderExt::expected) is where that stands.
     ///

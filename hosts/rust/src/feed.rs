@@ -376,7 +376,8 @@ impl Feeder {
         self.run.open_names(&self.bytes)
     }
 
-    /// The way down to where the reader stands, as [`ReaderExt::way_down`](crate::ext::ReaderExt::way_down) has it.
+    /// The way down to where the reader stands, as [`ReaderExt::way_down`](crate::ext::ReaderExt::way_down) has it. The names are those of the bytes that the feeder keeps, so it
+    /// goes on only when the rows are let go.
     ///
     /// ```
     /// use sporebasket::feed::Feeder;

@@ -152,11 +152,11 @@ fn as_str(piece: &[u8]) -> Result<&str, usize> {
 /// The refusal that no reader of this package gives.
 const BAD_STATE: usize = 17;
 
-/// Writes the open name of this depth, from 1, the outermost, into the first [`ROW_SLOTS`] slots of the row: its start, its end and its depth. The stack and the state are as a call of [`read_event`] left
-/// them.
+/// Writes the open name of this depth, from 1, the outermost, into the first [`ROW_SLOTS`] slots of the row: its start, its end and its depth. The stack and the state are as [`new`] or a call of [`read_event`]
+/// left them.
 ///
 /// 17, with nothing written, exactly where one of these is so: the row has fewer than [`ROW_SLOTS`] slots or the state fewer than [`STATE_SLOTS`]; this depth is 0 or above the state's; the state's is above
-/// [`MOST_NAMES`] or half the stack's slots; the start of the name is above its end, or its end above the position. In a run it comes for no depth from 1 to the state's.
+/// [`MOST_NAMES`] or half the stack's slots; the start of the name is above its end, or its end above the position. In a run and with enough slots it comes for no depth from 1 to the state's.
 ///
 /// ```
 /// use sporebasket::lent;
@@ -189,10 +189,10 @@ pub fn open_row(stack: &[usize], state: &[usize], depth: usize, row: &mut [usize
 }
 
 /// Fills the rows with the open names, the outermost first, each in [`ROW_SLOTS`] slots as [`open_row`] has it, and writes into the answer's first slot how many were filled: as many as names are open, or
-/// as there is room for. Slots behind these rows are left alone. The stack and the state are as a call of [`read_event`] left them.
+/// as there is room for. Slots behind these rows are left alone. The stack and the state are as [`new`] or a call of [`read_event`] left them.
 ///
 /// 17, exactly where one of these is so: the answer has fewer than [`FILLED_SLOTS`] slots (then nothing is written) or the state fewer than [`STATE_SLOTS`]; the state's depth is above [`MOST_NAMES`] or half
-/// the stack's slots; of a name for which there is room the start is above its end, or its end above the position. The answer is 0 then, and the rows are left alone. In a run it does not come.
+/// the stack's slots; of a name for which there is room the start is above its end, or its end above the position. The answer is 0 then, and the rows are left alone. In a run it comes for too few slots alone.
 ///
 /// ```
 /// use sporebasket::lent;

@@ -40,7 +40,7 @@ extern "C" {
         row_slots: usize,
     ) -> usize;
 
-    /// Fills the rows with the open names, and writes into the answer how many there are: 0, or the refusal's number.
+    /// Fills the rows with the open names, and writes into the answer how many were filled: 0, or the refusal's number.
     pub fn sporebasket_open_rows(
         stack: *const usize,
         stack_slots: usize,
