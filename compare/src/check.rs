@@ -3,6 +3,7 @@
 use crate::layout::Layout;
 use crate::listed;
 use crate::ours::*;
+use crate::rows::{Between, Rows, Wish, MANY};
 use crate::run::Runs;
 use crate::shrink::Kept;
 use crate::summary::Tally;
@@ -63,7 +64,7 @@ pub const FIELDS: [&str; 32] = [
     "mark",
     "returned number",
     "stack",
-    "open names",
+    "rows of open names",
     "bytes of a name",
     "slot not to be written",
     "eof too late or not to stay",
@@ -79,7 +80,7 @@ pub const FIELDS: [&str; 32] = [
 const STATE_BITS: usize = ANSWER_SLOTS;
 const RETURNED: u32 = 1 << 18;
 const STACK: u32 = 1 << 19;
-const OPEN: u32 = 1 << 20;
+pub const OPEN: u32 = 1 << 20;
 const BYTES: u32 = 1 << 21;
 const SLOT: u32 = 1 << 22;
 const LATE: u32 = 1 << 23;
@@ -127,6 +128,7 @@ pub struct Bench<E> {
     /// What the slot of the mark has to be.
     mark: usize,
     layout: Layout,
+    rows: Rows,
     state: [usize; STATE_SLOTS + MARGIN],
     answer: [usize; ANSWER_SLOTS + MARGIN],
 }
@@ -142,7 +144,9 @@ impl<E: Engine> Runs for Bench<E> {
     fn run(&mut self, case: &Case, tally: &mut Tally) -> Result<bool, Difference> {
         tally.inputs += 1;
         let result = self.steps(case, tally);
-        tally.laid.failed += result.is_err_and(|difference| difference.fields & LAYOUT != 0) as u64;
+        let failed = |fields: u32| result.is_err_and(|difference| difference.fields & fields != 0) as u64;
+        tally.laid.failed += failed(LAYOUT);
+        tally.rows.failed += failed(OPEN);
         self.wipe(case, result.is_err());
         result
     }
@@ -150,6 +154,7 @@ impl<E: Engine> Runs for Bench<E> {
     fn reset(&mut self) {
         self.stack.fill(CANARY);
         self.shadow.fill(CANARY);
+        self.rows = Rows::default();
         self.most = 0;
     }
 
@@ -171,6 +176,7 @@ impl<E: Engine> Bench<E> {
             most: 0,
             mark: 0,
             layout: Layout::default(),
+            rows: Rows::default(),
             state: [CANARY; STATE_SLOTS + MARGIN],
             answer: [CANARY; ANSWER_SLOTS + MARGIN],
         }
@@ -185,6 +191,9 @@ impl<E: Engine> Bench<E> {
         if (theirs.phase(), theirs.position(), theirs.place(), theirs.depth()) != (INIT, 0, 0, 0) {
             return Err(Difference { call: 0, fields: MAKING });
         }
+        if !self.rows_hold(case, &theirs, 0, false, Wish::Some, tally) {
+            return Err(Difference { call: 0, fields: OPEN });
+        }
         let mut eofs = 0;
         let mut call = 0;
         while eofs < 2 {
@@ -196,8 +205,17 @@ impl<E: Engine> Bench<E> {
             }
             let before = Before::of(&theirs);
             let seen = self.due(case, &mut theirs);
+            self.opened(case, &before, &seen);
+            // the rows first: they have to leave the stack and the state as they are
+            let (depth, ended) = (theirs.depth(), seen.kind == EOF);
+            let wish = match ended {
+                true => Wish::Each,
+                false if looked_through(call, 32 * depth) => Wish::List,
+                false => Wish::Some,
+            };
+            let rows = self.rows_hold(case, &theirs, depth, depth != before.depth, wish, tally);
             let mut fields = self.compare(case, &before, &theirs, &seen, returned);
-            if fields & STACK == 0 && !self.names_hold(case, &theirs, looked_through(call, theirs.depth()) || seen.kind == EOF) {
+            if !rows || depth > MANY && fields & STACK == 0 && !self.names_hold(case, &theirs, looked_through(call, depth) || ended) {
                 fields |= OPEN;
             }
             let told = listed::Told { case, answer: &self.answer, before: &before, theirs: &theirs, seen: &seen };
@@ -206,7 +224,6 @@ impl<E: Engine> Bench<E> {
             tally.calls += 1;
             tally.kinds[seen.kind] += 1;
             tally.numbers[seen.number] += 1;
-            let ended = seen.kind == EOF;
             if !ended && (eofs > 0 || call > case.document.len() + 1) {
                 return Err(Difference { call, fields: LATE });
             }
@@ -288,15 +305,19 @@ impl<E: Engine> Bench<E> {
         self.most = 0;
     }
 
-    /// What differs after a call, 0 for nothing.
-    fn compare(&mut self, case: &Case, before: &Before, theirs: &Theirs, seen: &Seen, returned: usize) -> u32 {
-        let depth = theirs.depth();
+    /// A name that the crate opened has to be on the stack.
+    fn opened(&mut self, case: &Case, before: &Before, seen: &Seen) {
         if seen.kind == START && before.depth < capacity(case.slots) {
             let (from, _) = seen.content.unwrap_or_default();
             self.shadow[2 * before.depth] = from;
             self.shadow[2 * before.depth + 1] = from + seen.name;
-            self.most = self.most.max(depth);
+            self.most = self.most.max(before.depth + 1);
         }
+    }
+
+    /// What differs after a call, 0 for nothing.
+    fn compare(&mut self, case: &Case, before: &Before, theirs: &Theirs, seen: &Seen, returned: usize) -> u32 {
+        let depth = theirs.depth();
         let wanted = self.wanted(case, before, theirs, seen);
         let state = [theirs.phase(), theirs.position() + theirs.mark, depth, case.document.len(), case.settings.into(), self.mark];
         let mut fields = bits(&self.answer, &wanted, 0) | bits(&self.state, &state, STATE_BITS);
@@ -405,13 +426,22 @@ impl<E: Engine> Bench<E> {
         }
     }
 
-    /// The open names of the crate are the spans on our stack, in order; of many names only the innermost, if not all are asked for.
+    /// The rows of so many open names are the crate's names, in order.
+    #[inline(always)]
+    fn rows_hold(&mut self, case: &Case, theirs: &Theirs, depth: usize, changed: bool, wish: Wish, tally: &mut Tally) -> bool {
+        let (stack, state) = (&self.stack[..case.slots], &self.state[..state_slots(case)]);
+        let (names, starts) = theirs.open_names();
+        let at = Between { document: case.document, stack, state, spans: &self.shadow, names, starts, depth };
+        depth <= capacity(case.slots) && self.rows.hold(&mut self.engine, &at, changed, wish, &mut tally.rows)
+    }
+
+    /// Many open names of the crate are the spans on our stack too, in order; only the innermost, if not all are asked for.
     fn names_hold(&self, case: &Case, theirs: &Theirs, all: bool) -> bool {
         let (names, starts) = theirs.open_names();
         if starts.len() > capacity(case.slots) {
             return false;
         }
-        let outer = if starts.len() <= SMALL || all { 0 } else { starts.len() - 8 };
+        let outer = if all { 0 } else { starts.len() - 8 };
         let mut end = names.len();
         for (&start, span) in starts.iter().zip(self.stack.chunks_exact(2)).skip(outer).rev() {
             if case.document.get(span[0]..span[1]) != names.as_bytes().get(start..end) {
@@ -436,6 +466,7 @@ impl<E: Engine> Bench<E> {
         let before = Before::of(theirs);
         let number = self.answer[NUMBER];
         self.told(0, number);
+        let rows = self.rows_hold(case, theirs, before.depth, true, Wish::Each, tally);
         let start = before.start(case, theirs.mark);
         let skipped = start + theirs.rest().len() - case.document.len();
         let opens = matches!(theirs.rest().get(skipped..skipped + 3), Some(b"<!D" | b"<!d"));
@@ -453,8 +484,11 @@ impl<E: Engine> Bench<E> {
         if !right || returned != number {
             fields |= LEAVING;
         }
+        if !rows {
+            fields |= OPEN;
+        }
         if fields == 0 {
-            fields = self.stays(case, call, &state, start)?;
+            fields = self.stays(case, theirs, call, &state, tally)?;
         }
         if fields != 0 {
             return Err(Difference { call, fields });
@@ -466,18 +500,23 @@ impl<E: Engine> Bench<E> {
     }
 
     /// After 14 and 15 ours answers Eof, with names open too, and changes nothing.
-    fn stays(&mut self, case: &Case, call: usize, state: &[usize], at: usize) -> Result<u32, Difference> {
+    fn stays(&mut self, case: &Case, theirs: &Theirs, call: usize, state: &[usize], tally: &mut Tally) -> Result<u32, Difference> {
         let returned = self.read(case, call + 1)?;
+        let rows = self.rows_hold(case, theirs, state[DEPTH], false, Wish::Some, tally);
+        let at = state[POSITION];
         let wanted = [EOF, 0, 0, at, at, at, at, 0, 0, 0, 0, 0];
         let mut fields = bits(&self.answer, &wanted, 0) | bits(&self.state, state, STATE_BITS) | self.margins();
         if returned != 0 {
             fields |= RETURNED;
         }
+        if !rows {
+            fields |= OPEN;
+        }
         Ok(fields)
     }
 }
 
-/// Whether all open names are looked at after this call: where many are open, so seldom that it comes to some 64 names a call.
+/// Whether all open names are looked at after this call: where many are open, so seldom that it comes to some 64 names a call. All are listed less often.
 fn looked_through(call: usize, depth: usize) -> bool {
     call.is_multiple_of((depth / SMALL).next_power_of_two().max(SMALL))
 }

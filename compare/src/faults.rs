@@ -2,6 +2,7 @@
 
 mod layout;
 mod list;
+mod rows;
 
 use crate::check::Bench;
 use crate::inputs::{self, Amount, Family};
@@ -19,9 +20,13 @@ pub struct Fault {
     /// What is made of the number and the state that a reader is made with, and of a part that is handed out.
     made: fn(&mut usize, &mut [usize]),
     part: fn(&mut Part),
+    /// What is made of a list of rows, and of the row of a depth.
+    list: fn(&mut List),
+    one: fn(&mut One),
 }
 
-const SOUND: Fault = Fault { name: "none", settings: |s| s, when: |_| false, then: |_| (), made: |_, _| (), part: |_| () };
+const SOUND: Fault =
+    Fault { name: "none", settings: |s| s, when: |_| false, then: |_| (), made: |_, _| (), part: |_| (), list: |_| (), one: |_| () };
 
 const fn flag(name: &'static str, settings: fn(u16) -> u16) -> Fault {
     Fault { name, settings, ..SOUND }
@@ -37,6 +42,14 @@ const fn making(name: &'static str, made: fn(&mut usize, &mut [usize])) -> Fault
 
 const fn parting(name: &'static str, part: fn(&mut Part)) -> Fault {
     Fault { name, part, ..SOUND }
+}
+
+const fn listing(name: &'static str, list: fn(&mut List)) -> Fault {
+    Fault { name, list, ..SOUND }
+}
+
+const fn single(name: &'static str, one: fn(&mut One)) -> Fault {
+    Fault { name, one, ..SOUND }
 }
 
 /// A call that was answered, for a fault to change.
@@ -158,17 +171,49 @@ impl Call<'_> {
     }
 }
 
+/// A list of rows that was answered, for a fault to change.
+pub struct List<'a> {
+    stack: &'a [usize],
+    state: &'a [usize],
+    rows: &'a mut [usize],
+    filled: &'a mut [usize],
+    number: usize,
+    /// The state before the call that the list follows, and the number which that answered.
+    before: &'a [usize],
+    told: usize,
+    /// Of each depth the first row that was listed in the run.
+    first: &'a [usize],
+}
+
+/// The row of a depth that was answered, for a fault to change.
+pub struct One<'a> {
+    stack: &'a [usize],
+    state: &'a [usize],
+    depth: usize,
+    row: &'a mut [usize],
+    number: usize,
+}
+
 /// The archive with a fault.
 struct Faulty<'f> {
     fault: &'f Fault,
     last_place: usize,
     last_number: usize,
     eofs: usize,
+    before: [usize; STATE_SLOTS],
+    first: Vec<usize>,
+}
+
+impl<'f> Faulty<'f> {
+    fn new(fault: &'f Fault) -> Self {
+        Self { fault, last_place: 0, last_number: 0, eofs: 0, before: [0; STATE_SLOTS], first: Vec::new() }
+    }
 }
 
 impl Engine for Faulty<'_> {
     fn make(&mut self, document: &[u8], settings: usize, state: &mut [usize]) -> usize {
-        (self.last_place, self.last_number, self.eofs) = (0, 0, 0);
+        *self = Self { first: std::mem::take(&mut self.first), ..Self::new(self.fault) };
+        self.first.clear();
         let mut number = Archive.make(document, settings, state);
         (self.fault.made)(&mut number, state);
         number
@@ -177,6 +222,7 @@ impl Engine for Faulty<'_> {
     fn read(&mut self, document: &[u8], stack: &mut [usize], state: &mut [usize], answer: &mut [usize]) -> usize {
         let mut before = [0; STATE_SLOTS];
         before.copy_from_slice(&state[..STATE_SLOTS]);
+        self.before = before;
         state[SETTINGS] = (self.fault.settings)(before[SETTINGS] as u16).into();
         Archive.read(document, stack, state, answer);
         state[SETTINGS] = before[SETTINGS];
@@ -198,6 +244,22 @@ impl Engine for Faulty<'_> {
         let (number, mut part) = Archive.content(document, from, to);
         (self.fault.part)(&mut part);
         (number, part)
+    }
+
+    fn rows(&mut self, stack: &[usize], state: &[usize], rows: &mut [usize], filled: &mut [usize]) -> usize {
+        let number = Archive.rows(stack, state, rows, filled);
+        let known = self.first.len().min(ROW_SLOTS * filled[0]);
+        self.first.extend_from_slice(&rows[known..ROW_SLOTS * filled[0]]);
+        let mut list = List { stack, state, rows, filled, number, before: &self.before, told: self.last_number, first: &self.first };
+        (self.fault.list)(&mut list);
+        list.number
+    }
+
+    fn row(&mut self, stack: &[usize], state: &[usize], depth: usize, row: &mut [usize]) -> usize {
+        let number = Archive.row(stack, state, depth, row);
+        let mut one = One { stack, state, depth, row, number };
+        (self.fault.one)(&mut one);
+        one.number
     }
 }
 
@@ -227,7 +289,7 @@ pub fn all_of<F: Sync>(faults: &[F], name: fn(&F) -> &'static str, notice: impl 
 
 /// Runs jobs until a fault is noticed: after how many inputs, by which family, and what fails.
 fn notice(fault: &Fault, families: &[Family]) -> Option<(u64, &'static str, u32)> {
-    let mut worker = Worker::new(Bench::new(Faulty { fault, last_place: 0, last_number: 0, eofs: 0 }), true);
+    let mut worker = Worker::new(Bench::new(Faulty::new(fault)), true);
     let (inputs, family) = worker.notice(families)?;
     let fields = worker.found.first().map_or(0, |(_, difference)| difference.fields);
     Some((inputs, family, fields))
@@ -235,7 +297,7 @@ fn notice(fault: &Fault, families: &[Family]) -> Option<(u64, &'static str, u32)
 
 /// Tries every fault by the quick inputs: true if all are noticed, and those of the layout by what it says of them.
 pub fn run(seed: u64) -> bool {
-    let faults: Vec<&Fault> = list::ALL.iter().copied().flatten().collect();
+    let faults: Vec<&Fault> = list::ALL.iter().copied().flatten().chain(rows::ALL).collect();
     let families = inputs::all(Amount::Quick, seed);
     let plain = |(inputs, family, _)| (inputs, family);
     let noticed = all_of(&faults, |fault| fault.name, |fault| notice(fault, &families).map(plain));

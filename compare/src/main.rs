@@ -16,6 +16,7 @@ mod listed;
 mod ours;
 mod pieces;
 mod record;
+mod rows;
 mod run;
 mod settings;
 mod shrink;
@@ -165,6 +166,7 @@ fn readers(wish: &Wish) -> bool {
     let missing = if of_files { Vec::new() } else { all.missing(&summary::REFUSALS) };
     missing.iter().for_each(|what| println!("never seen: {what}"));
     println!("{}", all.laid.line());
+    println!("{}", all.rows.line());
     println!("compare: {} inputs, {} calls, {} unlisted differences", all.inputs, all.calls, all.differences);
     all.differences == 0 && all.inputs > 0 && missing.is_empty()
 }

@@ -54,6 +54,13 @@ pub const FOUND_FROM: usize = 10;
 pub const FOUND_TO: usize = 11;
 pub const ANSWER_SLOTS: usize = lent::ANSWER_SLOTS;
 
+/// The slots of a row of an open name, and how many slots tell how many rows were filled.
+pub const ROW_START: usize = 0;
+pub const ROW_END: usize = 1;
+pub const ROW_DEPTH: usize = 2;
+pub const ROW_SLOTS: usize = lent::ROW_SLOTS;
+pub const FILLED_SLOTS: usize = lent::FILLED_SLOTS;
+
 /// The kinds of an event.
 pub const START: usize = 1;
 pub const END: usize = 2;
@@ -101,6 +108,10 @@ pub trait Engine {
     fn read(&mut self, document: &[u8], stack: &mut [usize], state: &mut [usize], answer: &mut [usize]) -> usize;
     /// The part of the document that is handed out for a span: the number answered, and the part's two ends.
     fn content(&mut self, document: &[u8], from: usize, to: usize) -> (usize, Part);
+    /// Fills a list with the rows of the open names, and writes how many: the number answered.
+    fn rows(&mut self, stack: &[usize], state: &[usize], rows: &mut [usize], filled: &mut [usize]) -> usize;
+    /// Writes the row of the open name of a depth: the number answered.
+    fn row(&mut self, stack: &[usize], state: &[usize], depth: usize, row: &mut [usize]) -> usize;
 }
 
 pub type Part = [usize; lent::PART_SLOTS];
@@ -119,6 +130,14 @@ impl Engine for Archive {
     fn content(&mut self, document: &[u8], from: usize, to: usize) -> (usize, Part) {
         let mut part = [usize::MAX; lent::PART_SLOTS];
         (lent::content(document, from, to, &mut part), part)
+    }
+
+    fn rows(&mut self, stack: &[usize], state: &[usize], rows: &mut [usize], filled: &mut [usize]) -> usize {
+        lent::open_rows(stack, state, rows, filled)
+    }
+
+    fn row(&mut self, stack: &[usize], state: &[usize], depth: usize, row: &mut [usize]) -> usize {
+        lent::open_row(stack, state, depth, row)
     }
 }
 

@@ -1,6 +1,6 @@
 //! Makes an input that shows a difference smaller, and prints it with what both sides say.
 
-use crate::check::{Bench, Case, Difference, FIELDS, LAYOUT};
+use crate::check::{Bench, Case, Difference, FIELDS, LAYOUT, OPEN};
 use crate::ours::*;
 use crate::run::Runs;
 use crate::summary::Tally;
@@ -116,6 +116,11 @@ pub fn show<E: Engine>(engine: &mut E, kept: &Kept, difference: Difference) {
     if difference.fields & LAYOUT != 0 {
         for line in trace::our_pieces(engine, &case, difference.call) {
             println!("    piece      {line}");
+        }
+    }
+    if difference.fields & OPEN != 0 {
+        for line in trace::our_rows(engine, &case, difference.call) {
+            println!("    rows       {line}");
         }
     }
 }

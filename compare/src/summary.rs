@@ -3,6 +3,7 @@
 use crate::layout::Laid;
 use crate::listed;
 use crate::ours::*;
+use crate::rows::Listed;
 use crate::run::Counts;
 
 /// The refusals that both sides give, and behind them 18, which is held to the crate's open names.
@@ -21,6 +22,7 @@ pub struct Tally {
     /// Cases that left the domain by 14, 15 and 16.
     pub left: [u64; 3],
     pub laid: Laid,
+    pub rows: Listed,
     pub differences: u64,
 }
 
@@ -34,6 +36,7 @@ impl Default for Tally {
             listed: [0; listed::COUNT],
             left: [0; 3],
             laid: Laid::default(),
+            rows: Listed::default(),
             differences: 0,
         }
     }
@@ -49,6 +52,7 @@ impl Counts for Tally {
         pairs(&mut self.listed, &other.listed);
         pairs(&mut self.left, &other.left);
         self.laid.add(&other.laid);
+        self.rows.add(&other.rows);
     }
 
     fn differences(&mut self) -> &mut u64 {
@@ -84,6 +88,7 @@ impl Tally {
             }
         }
         missing.extend(self.laid.missing());
+        missing.extend(self.rows.missing());
         missing
     }
 

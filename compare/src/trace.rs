@@ -85,16 +85,37 @@ pub fn our_line(state: &[usize], answer: &[usize], document: &[u8]) -> String {
 
 /// The lines of our side, up to Eof or so many.
 pub fn our_lines<E: Engine>(engine: &mut E, case: &Case, most: usize) -> Vec<String> {
-    answers(engine, case, most, our_line)
+    answers(engine, case, most, |_, lent| our_line(lent.state, lent.answer, case.document))
 }
 
 /// The pieces of our side, and the positions that are left, up to Eof or so many.
 pub fn our_pieces<E: Engine>(engine: &mut E, case: &Case, most: usize) -> Vec<String> {
-    answers(engine, case, most, |state, answer, _| format!("{}..{}, position {}", answer[PIECE_FROM], answer[PIECE_TO], state[POSITION]))
+    answers(engine, case, most, |_, Lent { state, answer, .. }| {
+        format!("{}..{}, position {}", answer[PIECE_FROM], answer[PIECE_TO], state[POSITION])
+    })
 }
 
-/// A line for each answer of our side, by its state, its answer and the document.
-fn answers<E: Engine>(engine: &mut E, case: &Case, most: usize, line: fn(&[usize], &[usize], &[u8]) -> String) -> Vec<String> {
+/// The rows of the open names behind each answer of our side, up to Eof or so many.
+pub fn our_rows<E: Engine>(engine: &mut E, case: &Case, most: usize) -> Vec<String> {
+    answers(engine, case, most, |engine, lent| {
+        let mut rows = vec![0; ROW_SLOTS * lent.state[DEPTH].min(MOST_NAMES)];
+        let mut filled = [0; FILLED_SLOTS];
+        let number = engine.rows(lent.stack, lent.state, &mut rows, &mut filled);
+        let rows: String =
+            rows.chunks(ROW_SLOTS).map(|row| format!(", {}..{} at {}", row[ROW_START], row[ROW_END], row[ROW_DEPTH])).collect();
+        format!("answered {number}, {} filled{rows}", filled[0])
+    })
+}
+
+/// What was lent to a call.
+struct Lent<'a> {
+    stack: &'a [usize],
+    state: &'a [usize],
+    answer: &'a [usize],
+}
+
+/// A line for each answer of our side.
+fn answers<E: Engine>(engine: &mut E, case: &Case, most: usize, line: impl Fn(&mut E, Lent) -> String) -> Vec<String> {
     let mut state = [0; STATE_SLOTS];
     let mut answer = [0; ANSWER_SLOTS];
     let mut stack = vec![CANARY; case.slots];
@@ -106,7 +127,7 @@ fn answers<E: Engine>(engine: &mut E, case: &Case, most: usize, line: fn(&[usize
     let mut lines = Vec::new();
     while lines.len() < most && answer[KIND] != EOF {
         engine.read(case.document, &mut stack, &mut state, &mut answer);
-        lines.push(line(&state, &answer, case.document));
+        lines.push(line(engine, Lent { stack: &stack, state: &state, answer: &answer }));
     }
     lines
 }
