@@ -48,7 +48,10 @@ const PHASES: usize = 6;
 pub fn answer(text: &[u8]) {
     let end = word(text, 0);
     let form = ground::part(text, 0, end);
-    match number_of(form, b"run;state;content;column;attributes;feed;row;rows;outermost") {
+    match number_of(
+        form,
+        b"run;state;content;column;attributes;feed;row;rows;outermost",
+    ) {
         0 => run_case(text, end),
         1 => state_case(text, end),
         2 => content_case(text, end),

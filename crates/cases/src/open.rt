@@ -70,7 +70,11 @@ pub fn outermost_case(text: &[u8], from: usize) {
     let mut stack = [0usize; 20];
     values(text, slots.next, &mut stack);
     let slots = lent(slots.value, &stack);
-    say_rows(&stack[..slots], Position(position.value), Depth(names.value));
+    say_rows(
+        &stack[..slots],
+        Position(position.value),
+        Depth(names.value),
+    );
 }
 
 fn say_rows(stack: &[usize], position: Position, names: Depth) {

@@ -187,7 +187,7 @@ module _ (s : List ℕ) (p : Position) (n : Depth) (room : ℕ) (k : Depth) (e :
   plan-stops i g h f bad =
       let back : i + 1 - 1 ≡ i = omega arith in
       let ordered : inOrder s p i ≡ true → ⊥ = λ o. not-given (rowAt s (i + 1 - 1))
-          (sym (one-given s p n (depthOf (i + 1)) (omega (arith, ap (λ (x : Depth). x .0) e)) (omega arith) (omega arith) (subst (λ (m : ℕ). inOrder s p m ≡ true) (sym back) o)) ∙ sym f ∙ bad) in
+      (sym (one-given s p n (depthOf (i + 1)) (omega (arith, ap (λ (x : Depth). x .0) e)) (omega arith) (omega arith) (subst (λ (m : ℕ). inOrder s p m ≡ true) (sym back) o)) ∙ sym f ∙ bad) in
       plan-disordered s p n room (one-out-of-order s p (min (n .0) room) i (omega arith) (must-fail (inOrder s p i) ordered))
 
   pub plan-rows : (i : ℕ) → i ≤ count → count ≤ i → allInOrder s p i ≡ true → Filled.Rows count ≡ planOf s p n room

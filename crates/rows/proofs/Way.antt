@@ -24,7 +24,7 @@ use Rattle.rows.specs.declared.row.Given.{Given}
 use Rattle.rows.specs.declared.row.Filled.{Filled}
 use Rattle.rows.specs.Answers.{countOf}
 use Rattle.rows.specs.Rows.{recordOf, rowAt, inOrder, allInOrder, rowOf, planOf, rowsFrom, filledWith, Listed}
-use Rattle.rows.specs.Words.{numbered, wayDown, Shows, nameIn}
+use Rattle.rows.specs.Words.{numbered, wayDown, Shows, nameBytes}
 use Rattle.rows.proofs.Records.{one-given, one-shows, plan-all}
 use Rattle.rows.proofs.Lists.{rows-length, rows-more}
 use Rattle.rows.proofs.Theorems.{passed-ordered, a-record-is-its-entry, each-record-is-the-one-of-its-depth}
@@ -168,10 +168,7 @@ module _ (doc stack : List ℕ) (c : Config) (short : length doc ≤ longest) (n
 -- ---- the bytes of the records
 
 module _ (doc : List ℕ) where
-  abbrev nameBytes : Row → List ℕ
-  nameBytes row = bytes doc (nameIn row)
-
-  numbered-bytes : (depth room : ℕ) (names : List Span) → map nameBytes (take room (numbered depth names)) ≡ take room (map (bytes doc) names)
+  numbered-bytes : (depth room : ℕ) (names : List Span) → map (nameBytes doc) (take room (numbered depth names)) ≡ take room (map (bytes doc) names)
   unfolding numbered
   numbered-bytes depth zero names = refl
   numbered-bytes depth (suc room) [] = refl
@@ -179,13 +176,13 @@ module _ (doc : List ℕ) where
 
   -- THEOREM: "their bytes are the names that the answers given so far say"
   pub their-bytes-are-the-names-told : (answers : List Answer) (list : List Row) (answer : Filled) (list' : List Row) → Shows answers list answer list'
-      → map nameBytes (take (countOf answer) list') ≡ take (length list) (map (bytes doc) (reverse (leftOpen answers)))
+      → map (nameBytes doc) (take (countOf answer) list') ≡ take (length list) (map (bytes doc) (reverse (leftOpen answers)))
   unfolding wayDown
   their-bytes-are-the-names-told answers list answer list' p =
       let names = leftOpen answers in
       let count : countOf answer ≡ min (length names) (length list) = ap countOf (p .count) in
       let long : length (take (length list) (numbered 1 (reverse names))) ≡ countOf answer =
       length-take (length list) (numbered 1 (reverse names)) ∙ omega (arith, numbered-length 1 (reverse names), length-reverse names) in
-      ap (λ (rows : List Row). map nameBytes (take (countOf answer) rows)) (p .rows)
-      ∙ ap (map nameBytes) (take-at (take (length list) (numbered 1 (reverse names))) (drop (length names) list) (countOf answer) long)
+      ap (λ (rows : List Row). map (nameBytes doc) (take (countOf answer) rows)) (p .rows)
+      ∙ ap (map (nameBytes doc)) (take-at (take (length list) (numbered 1 (reverse names))) (drop (length names) list) (countOf answer) long)
       ∙ numbered-bytes 1 (length list) (reverse names)

@@ -9,7 +9,7 @@ use Rattle.state.specs.declared.place.Depth.{Depth}
 use Rattle.state.specs.declared.answer.Answer.{Answer}
 use Rattle.state.specs.Limits.{capacity}
 use Rattle.state.specs.Place.{span}
-use Rattle.reader.specs.Names.{entry}
+use Rattle.reader.specs.Names.{entry, bytes}
 use Rattle.demands.specs.Run.{World}
 use Rattle.demands.specs.Open.{leftOpen}
 use Rattle.rows.specs.declared.row.Row.{Row}
@@ -55,6 +55,6 @@ abbrev pub WayShown : World → Type 0
 WayShown w =
     (list : List Row) (answer : Filled) (list' : List Row) → Listed (w .stack) (w .reader .position) (w .reader .depth) list answer list' → Shows (w .answers) list answer list'
 
--- where the bytes of a record's name stand
-abbrev pub nameIn : Row → Span
-nameIn row = span (row .start .0) (row .end .0)
+-- the bytes of a record's name
+abbrev pub nameBytes : List ℕ → Row → List ℕ
+nameBytes doc row = bytes doc (span (row .start .0) (row .end .0))

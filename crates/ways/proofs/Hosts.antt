@@ -84,15 +84,19 @@ module _ (doc stack : List ℕ) (settings : ℕ) where
     deep : r .depth .0 ≤ capacity (length (h .stack))
     deep = omega (arith, depth-is calls, lent-deep calls)
 
-    -- the plan, as the host's slots have it
+    -- the plan over the slots lent so far, and as the host's state has it
+    plan-is : (room : ℕ) → planOf (h .stack) (r .position) (r .depth) room ≡ Filled.Rows (min (r .depth .0) room)
+    plan-is room =
+        same-plan (h .stack) back (r .depth) deep (r .position) room
+        ∙ ap (λ (l : List ℕ). planOf l (r .position) (r .depth) room) (follows .1 .stack)
+        ∙ no-list-is-refused doc stack (configOf settings) (follows .0) n room
+
     planned : (room : ℕ) → filledIn (h .stack) (h .state) room ≡ Filled.Rows (min (r .depth .0) room)
     unfolding filledIn
     planned room =
         sym (pick-nlt _ _ _ _ _ (state-long (h .state) r (follows .1 .state)) refl)
         ∙ rw (position-is (h .state) r (follows .1 .state), names-are (h .state) r (follows .1 .state))
-        (same-plan (h .stack) back (r .depth) deep (r .position) room
-        ∙ ap (λ (l : List ℕ). planOf l (r .position) (r .depth) room) (follows .1 .stack)
-        ∙ no-list-is-refused doc stack (configOf settings) (follows .0) n room)
+        (plan-is room)
 
     first : (room : ℕ) → rowsFrom (h .stack) 0 (min (r .depth .0) room) ≡ take room (wayDown told)
     first room =
@@ -127,15 +131,11 @@ module _ (doc stack : List ℕ) (settings : ℕ) where
     a-host's-row-is-that-of-the-way-down depth slots number slots' room some below p =
         let names = depth-is calls in
         let up : depth - 1 + 1 ≡ depth = omega arith in
-        let plan : planOf (h .stack) (r .position) (r .depth) depth ≡ Filled.Rows (min (r .depth .0) depth) =
-        same-plan (h .stack) back (r .depth) deep (r .position) depth
-        ∙ ap (λ (l : List ℕ). planOf l (r .position) (r .depth) depth) (follows .1 .stack)
-        ∙ no-list-is-refused doc stack (configOf settings) (follows .0) n depth in
         let given : rowIn (h .stack) (h .state) depth slots ≡ Given.Row (rowAt (h .stack) (depth - 1)) =
         sym (pick-nlt _ _ _ _ _ room (pick-nlt _ _ _ _ _ (state-long (h .state) r (follows .1 .state)) refl))
         ∙ rw (position-is (h .state) r (follows .1 .state), names-are (h .state) r (follows .1 .state))
         (ap (λ (d : ℕ). rowOf (h .stack) (r .position) (r .depth) (depthOf d)) (sym up)
-        ∙ plan-gives (h .stack) (r .position) (r .depth) depth (depth - 1) (omega (arith, ap countOf plan))) in
+        ∙ plan-gives (h .stack) (r .position) (r .depth) depth (depth - 1) (omega (arith, ap countOf (plan-is depth)))) in
         record {
           said = p .said ∙ ap givenNumber given;
           row = λ any.
