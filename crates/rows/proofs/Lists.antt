@@ -6,6 +6,7 @@ use mathlib.Core.List.{List, [], _∷_, _++_}
 use native.Mathlib.Omega.{arith}
 use native.Mathlib.Numerals.{add-one}
 use lib.ListN.{length, getD, set, drop}
+use lib.Seq.{length-front, length-take-le}
 use borrow.Author.Tests.{leb-true}
 use Rattle.ground.specs.Choose.{pick, allOf}
 use Rattle.ground.proofs.Choices.{both, pick-cases}
@@ -45,7 +46,7 @@ module _ (s : List ℕ) (p : Position) (n : Depth) (room : ℕ) where
   plan-fits =
       pick-cases (λ (f : Filled). countOf f ≤ min (n .0) room) (allOf (fits s n ∷ allInOrder s p (min (n .0) room) ∷ [])) (Filled.Rows (min (n .0) room)) Filled.BadState (λ _. omega arith) (λ _. omega arith)
 
--- ---- one record more
+-- ---- the outermost records
 
 pub rows-length : (stack : List ℕ) (d n : ℕ) → length (rowsFrom stack d n) ≡ n
 unfolding rowsFrom
@@ -68,6 +69,8 @@ from-there stack d (suc n) (suc i) any h = let e : d + 1 + i ≡ d + suc i = ome
 pub row-there : (stack : List ℕ) (n i : ℕ) (any : Row) → i < n → getD (rowsFrom stack 0 n) i any ≡ rowAt stack i
 row-there stack n i any h = let e : 0 + i ≡ i = omega arith in from-there stack 0 n i any h ∙ ap (rowAt stack) e
 
+-- ---- a list, with one record more
+
 module _ (s : List ℕ) where
   more : (d i : ℕ) (list : List Row) → i < length list → set (rowsFrom s d i ++ drop i list) i (rowAt s (d + i)) ≡ rowsFrom s d (suc i) ++ drop (suc i) list
   unfolding rowsFrom
@@ -84,15 +87,9 @@ module _ (s : List ℕ) where
       let e : i ≡ 0 + i = omega arith in
       ap (λ (m : ℕ). set (rowsFrom s 0 i ++ drop i list) i (rowAt s m)) e ∙ more 0 i list h ∙ ap (λ (m : ℕ). rowsFrom s 0 m ++ drop m list) (sym (add-one i))
 
-  as-long : (d i : ℕ) (list : List Row) → i ≤ length list → length (rowsFrom s d i ++ drop i list) ≡ length list
-  unfolding rowsFrom
-  as-long d zero list h = refl
-  as-long d (suc i) [] h = absurd (omega arith)
-  as-long d (suc i) (row ∷ list) h = ap suc (as-long (d + 1) i list (omega arith))
-
   pub filled-length : (i : ℕ) (list : List Row) → i ≤ length list → length (filledWith s i list) ≡ length list
   unfolding filledWith
-  filled-length = as-long 0
+  filled-length i list h = length-front list (rowsFrom s 0 i) i (rows-length s 0 i ∙ sym (length-take-le i list h))
 
   pub filled-none : (list : List Row) → filledWith s 0 list ≡ list
   unfolding filledWith rowsFrom
