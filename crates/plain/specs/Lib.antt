@@ -1,0 +1,4 @@
+pub mod Asked
+pub mod Known
+pub mod Letters
+pub mod Told
