@@ -1,6 +1,6 @@
 // The functions that a host in Rust or C links (include/sporebasket.h): numbers and slices in, numbers out. Each answers 0 or the number of a refusal.
 mod bits;
-mod slots;
+pub mod slots;
 
 use crate::bits::config;
 use crate::bits::settings_number;
