@@ -13,6 +13,7 @@ pub mod Phases
 pub mod States
 pub mod Tags
 pub mod Texts
+pub mod Theorems
 pub mod Ticks
 pub mod Tracks
 pub mod Turns

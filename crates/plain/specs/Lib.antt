@@ -1,4 +1,5 @@
 pub mod Asked
+pub mod Engines
 pub mod Known
 pub mod Letters
 pub mod Told
