@@ -32,6 +32,7 @@ use state::place::Span;
 use state::run::Made;
 use state::run::Phase;
 use state::run::Reader;
+use state::run::Step;
 use tally::tally;
 ghost use Prim.Native.Nat.{_+_, _*_};
 ghost use mathlib.Core.Path.{_≡_};
@@ -50,10 +51,10 @@ pub fn answer(text: &[u8]) {
     let form = ground::part(text, 0, end);
     match number_of(
         form,
-        b"run;state;content;column;attributes;feed;row;rows;outermost",
+        b"run;state;content;column;attributes;feed;row;rows;outermost;plain;plain-state",
     ) {
-        0 => run_case(text, end),
-        1 => state_case(text, end),
+        0 => run_case(text, end, false),
+        1 => state_case(text, end, false),
         2 => content_case(text, end),
         3 => column_case(text, end),
         4 => attributes_case(text, end),
@@ -61,12 +62,15 @@ pub fn answer(text: &[u8]) {
         6 => open_case(text, end, false),
         7 => open_case(text, end, true),
         8 => outermost_case(text, end),
+        9 => run_case(text, end, true),
+        10 => state_case(text, end, true),
         _ => {}
     }
 }
 
-// A run, and the counts of another over the same document and stack. Its settings, its slots and its bytes stand after the space at `from`.
-fn run_case(text: &[u8], from: usize) {
+// A run, and the counts of another over the same document and stack; or a run by the plain engine. Its settings, its slots and its bytes stand after the space
+// at `from`.
+fn run_case(text: &[u8], from: usize, plain: bool) {
     let end = word(text, from);
     let settings = settings(ground::part(text, from, end));
     let slots = number(text, end);
@@ -75,29 +79,31 @@ fn run_case(text: &[u8], from: usize) {
     let document = &space[..n];
     let mut stack = [0usize; ROOM];
     let lent = lent(slots.value, &stack);
-    run(document, &mut stack[..lent], settings);
+    run(document, &mut stack[..lent], settings, plain);
 }
 
-fn run(document: &[u8], stack: &mut [usize], settings: Config) {
-    calls(document, stack, settings);
-    say_tally(tally(document, stack, settings));
+fn run(document: &[u8], stack: &mut [usize], settings: Config, plain: bool) {
+    calls(document, stack, settings, plain);
+    if !plain {
+        say_tally(tally(document, stack, settings));
+    }
 }
 
-fn calls(document: &[u8], stack: &mut [usize], settings: Config) {
+fn calls(document: &[u8], stack: &mut [usize], settings: Config, plain: bool) {
     match Reader::new(document, settings) {
-        Made::Fresh(reader) => all(reader, document, stack),
+        Made::Fresh(reader) => all(reader, document, stack, plain),
         Made::Refused(_) => say(b"  refused 16 0\n"),
     }
 }
 
 // Calls until end of file, which comes after as many calls as the document has bytes and two more, or before, and once more.
-fn all(fresh: Reader, document: &[u8], stack: &mut [usize]) {
+fn all(fresh: Reader, document: &[u8], stack: &mut [usize], plain: bool) {
     let mut reader = fresh;
     let mut ended = false;
     let mut left = document.len() + 3;
     while 0 < left {
         left -= 1;
-        let turn = call(reader, document, stack);
+        let turn = call(reader, document, stack, plain);
         reader = turn.reader;
         say_names(reader, stack);
         if ended {
@@ -113,9 +119,18 @@ struct Turn {
     ended: bool,
 }
 
+// One call, by the reader or by the plain engine.
+fn step(reader: Reader, document: &[u8], stack: &mut [usize], plain: bool) -> Step {
+    if plain {
+        plain::advance(reader, document, stack)
+    } else {
+        advance(reader, document, stack)
+    }
+}
+
 // One call, and its answer written.
-fn call(reader: Reader, document: &[u8], stack: &mut [usize]) -> Turn {
-    let step = advance(reader, document, stack);
+fn call(reader: Reader, document: &[u8], stack: &mut [usize], plain: bool) -> Turn {
+    let step = step(reader, document, stack, plain);
     let after = step.reader;
     let answer = step.answer;
     let values = answer.values();
@@ -128,7 +143,7 @@ fn call(reader: Reader, document: &[u8], stack: &mut [usize]) -> Turn {
 }
 
 // One call: the state that it starts from stands after the space at `from`, with the stack's values and the bytes behind it.
-fn state_case(text: &[u8], from: usize) {
+fn state_case(text: &[u8], from: usize, plain: bool) {
     let end = word(text, from);
     let settings = settings(ground::part(text, from, end));
     let next = word(text, end);
@@ -150,7 +165,7 @@ fn state_case(text: &[u8], from: usize) {
     let lent = lent(slots.value, &stack);
     let mut space = io::buffer();
     let n = bytes(text, word(text, slots.next), &mut space);
-    one_call(reader, &space[..n], &mut stack[..lent]);
+    one_call(reader, &space[..n], &mut stack[..lent], plain);
 }
 
 // A stack with the values that stand after the space at `from`, and 0 in the slots after them.
@@ -182,8 +197,8 @@ fn phase(number: usize) -> Phase {
 }
 
 // The call, and all that it leaves.
-fn one_call(reader: Reader, document: &[u8], stack: &mut [usize]) {
-    let turn = call(reader, document, stack);
+fn one_call(reader: Reader, document: &[u8], stack: &mut [usize], plain: bool) {
+    let turn = call(reader, document, stack, plain);
     let after = turn.reader;
     say_reader(after);
     say_slots(stack);

@@ -9,7 +9,9 @@
 //   row DEPTH POSITION NAMES SLOTS VALUES                                 the open name at a depth, in 4 slots that hold 9999 before
 //   rows ROOM POSITION NAMES SLOTS VALUES                                 the open names, in ROOM slots that hold 9999 before
 //   outermost POSITION NAMES SLOTS VALUES                                 the eight outermost open names, by value
-// The answers to the last nine stand below the line. NAME is one that `leaves.rt` has. A function that compares has its other bytes in place of the
+//   plain SETTINGS SLOTS BYTES                                            as `run`, by the plain engine, without the counts
+//   plain-state SETTINGS PHASE POSITION DEPTH LENGTH SLOTS VALUES BYTES   as `state`, by the plain engine
+// The answers to the last eleven stand below the line. NAME is one that `leaves.rt` has. A function that compares has its other bytes in place of the
 // second number. SETTINGS are letters of `settings.rt` or `-`. PHASE has a `!` in front where the mark is on, in the answers too. SLOTS is how many slots
 // the lent stack has, at most as many as `calls.rt` has (for `column`, `row` and `rows` 16, for `outermost` 20). VALUES, with commas or `-`, are what its first ones hold. ROOM is at most 16. In BYTES `\` and two hexadecimal digits
 // stand for a byte. STATE is a word that `feeds.rt` has. Any other line is written as it is. The cases together have fewer than 327,680 bytes.

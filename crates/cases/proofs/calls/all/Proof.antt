@@ -6,10 +6,10 @@ use Rattle.cases.proofs.calls.all.Statement.{statement}
 use Rattle.cases.proofs.calls.all.Tie as tie
 
 abbrev Inv-loop : tie.InvT-loop
-Inv-loop document stack₀ reader₀ ended₀ left₀ stack reader ended left = length stack ≡ length stack₀
+Inv-loop document stack₀ plain reader₀ ended₀ left₀ stack reader ended left = length stack ≡ length stack₀
 
 abbrev μ-loop : tie.MeasureT-loop
-μ-loop document stack₀ reader₀ ended₀ left₀ stack reader ended left = left
+μ-loop document stack₀ plain reader₀ ended₀ left₀ stack reader ended left = left
 
 pub all-spec : {M : Type 1} → statement M
 all-spec =
