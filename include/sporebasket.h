@@ -251,6 +251,11 @@ size_t sporebasket_new(const uint8_t *document, size_t length, size_t settings, 
 size_t sporebasket_read_event(const uint8_t *document, size_t length, size_t *stack, size_t stack_slots, size_t *state,
                               size_t state_slots, size_t *answer, size_t answer_slots);
 
+/* The same by the plain engine, which takes one byte at a time and searches nowhere ahead, so that it can be checked by eye. Whatever is lent, it answers what sporebasket_read_event answers and leaves every slot
+ * of the answer, the state and the stack as that does: this is proved. It is slower, and is for the release check (`tools/release-check`). Any call of a run may be made by either. */
+size_t sporebasket_plain_read_event(const uint8_t *document, size_t length, size_t *stack, size_t stack_slots, size_t *state,
+                                    size_t state_slots, size_t *answer, size_t answer_slots);
+
 /* Writes the open name of this depth, from 1, the outermost, into the first SPOREBASKET_ROW_SLOTS slots of `row`. The stack and the state are a reader's, between any two calls, and are only read;
  * of the state POSITION and DEPTH alone are looked at.
  * 17, with nothing written, exactly where one of these is so:

@@ -1,20 +1,27 @@
-//! Runs one case on both sides and compares them after every call, in every number and every slot that was lent. What ours answers is laid out besides, by itself.
+//! Runs one case on both sides and compares them after every call, in every number and every slot that was lent. What ours answers is laid out besides, by itself, and
+//! held to the plain engine.
 
 use crate::layout::Layout;
 use crate::listed;
 use crate::ours::*;
+use crate::plain::{Left, Plain};
 use crate::rows::{Between, Rows, Wish, MANY};
 use crate::run::Runs;
 use crate::shrink::Kept;
+use crate::strays;
 use crate::summary::Tally;
 use crate::theirs::{Seen, Theirs, THEIR_DOCTYPE};
 
 /// What stands in every slot that nobody has to write.
 pub const CANARY: usize = 0xA5C3_5A3C_A5C3_5A3C;
 /// Slots behind those that are lent, looked at too.
-const MARGIN: usize = 8;
+pub const MARGIN: usize = 8;
 /// A stack of more slots is looked at near its depth after a call, and in full at the case's end.
-const SMALL: usize = 64;
+pub const SMALL: usize = 64;
+
+/// A state and an answer, with the slots behind.
+pub type State = [usize; STATE_SLOTS + MARGIN];
+pub type Answer = [usize; ANSWER_SLOTS + MARGIN];
 
 /// An input: a document, the settings and the slots of the stack.
 #[derive(Clone, Copy)]
@@ -24,25 +31,30 @@ pub struct Case<'a> {
     pub slots: usize,
     /// What is put into the slot of the mark before the first call: 0 leaves it off.
     pub mark: usize,
+    /// The plain engine reads it too.
+    pub beside: bool,
+    /// The states are changed into others, and the plain engine is held to the reader in those alone.
+    pub stray: bool,
 }
 
 impl<'a> Case<'a> {
     pub fn new(document: &'a [u8], settings: u16, slots: usize) -> Self {
-        Self { document, settings, slots, mark: 0 }
+        Self { document, settings, slots, mark: 0, beside: true, stray: false }
     }
 }
 
-/// A difference that is not listed: the call, from 1, and what differs, a bit of `FIELDS` each.
+/// A difference that is not listed: the call, from 1, and what differs, a bit of `FIELDS` each. What the plain engine differs in
+/// from the reader stands `PLAIN` bits higher, with `STRAY` where the state is one that no run has.
 #[derive(Clone, Copy, Debug, PartialEq, Eq)]
 pub struct Difference {
     pub call: usize,
-    pub fields: u32,
+    pub fields: u64,
 }
 
 /// A side did not come back from the case.
 pub const PANIC: Difference = Difference { call: 0, fields: 0 };
 
-/// Names of what can differ: the slots of an answer, then those of a state, then the rest.
+/// Names of what can differ from the crate, and of the plain engine from the reader: the slots of an answer, then those of a state, then the rest.
 pub const FIELDS: [&str; 32] = [
     "kind",
     "number",
@@ -77,22 +89,26 @@ pub const FIELDS: [&str; 32] = [
     "layout: a byte dropped",
     "layout: a byte not in exactly one part",
 ];
-const STATE_BITS: usize = ANSWER_SLOTS;
-const RETURNED: u32 = 1 << 18;
-const STACK: u32 = 1 << 19;
-pub const OPEN: u32 = 1 << 20;
-const BYTES: u32 = 1 << 21;
-const SLOT: u32 = 1 << 22;
-const LATE: u32 = 1 << 23;
-const LEAVING: u32 = 1 << 24;
-const MAKING: u32 = 1 << 25;
-const PART: u32 = 1 << 26;
-const LISTED: u32 = 1 << 27;
-const GOOD: u32 = 1 << 28;
-pub const ORDER: u32 = 1 << 29;
-pub const DROPPED: u32 = 1 << 30;
-pub const COUNT: u32 = 1 << 31;
-pub const LAYOUT: u32 = ORDER | DROPPED | COUNT;
+pub const PLAIN: usize = FIELDS.len();
+pub const STRAY: u64 = 1 << 63;
+/// All that the plain engine can differ in.
+pub const BESIDE: u64 = !0 << PLAIN;
+pub const STATE_BITS: usize = ANSWER_SLOTS;
+pub const RETURNED: u64 = 1 << 18;
+pub const STACK: u64 = 1 << 19;
+pub const OPEN: u64 = 1 << 20;
+const BYTES: u64 = 1 << 21;
+pub const SLOT: u64 = 1 << 22;
+const LATE: u64 = 1 << 23;
+const LEAVING: u64 = 1 << 24;
+const MAKING: u64 = 1 << 25;
+const PART: u64 = 1 << 26;
+const LISTED: u64 = 1 << 27;
+const GOOD: u64 = 1 << 28;
+pub const ORDER: u64 = 1 << 29;
+pub const DROPPED: u64 = 1 << 30;
+pub const COUNT: u64 = 1 << 31;
+pub const LAYOUT: u64 = ORDER | DROPPED | COUNT;
 
 /// What the crate's side was before a call.
 pub struct Before {
@@ -129,8 +145,11 @@ pub struct Bench<E> {
     mark: usize,
     layout: Layout,
     rows: Rows,
-    state: [usize; STATE_SLOTS + MARGIN],
-    answer: [usize; ANSWER_SLOTS + MARGIN],
+    /// The plain engine, but where the crate has to show a fault of the reader; and whether states are changed.
+    plain: Option<Plain>,
+    strays: bool,
+    state: State,
+    answer: Answer,
 }
 
 impl<E: Engine> Runs for Bench<E> {
@@ -142,11 +161,15 @@ impl<E: Engine> Runs for Bench<E> {
 
     /// Runs a case to its second Eof, or to where it leaves the domain of equality.
     fn run(&mut self, case: &Case, tally: &mut Tally) -> Result<bool, Difference> {
+        if case.stray {
+            return self.strays(case, tally);
+        }
         tally.inputs += 1;
         let result = self.steps(case, tally);
-        let failed = |fields: u32| result.is_err_and(|difference| difference.fields & fields != 0) as u64;
+        let failed = |fields: u64| result.is_err_and(|difference| difference.fields & fields != 0) as u64;
         tally.laid.failed += failed(LAYOUT);
         tally.rows.failed += failed(OPEN);
+        tally.beside.failed += failed(BESIDE);
         self.wipe(case, result.is_err());
         result
     }
@@ -155,6 +178,7 @@ impl<E: Engine> Runs for Bench<E> {
         self.stack.fill(CANARY);
         self.shadow.fill(CANARY);
         self.rows = Rows::default();
+        self.plain.iter_mut().for_each(|plain| *plain = Plain::default());
         self.most = 0;
     }
 
@@ -177,9 +201,33 @@ impl<E: Engine> Bench<E> {
             mark: 0,
             layout: Layout::default(),
             rows: Rows::default(),
+            plain: Some(Plain::default()),
+            strays: true,
             state: [CANARY; STATE_SLOTS + MARGIN],
             answer: [CANARY; ANSWER_SLOTS + MARGIN],
         }
+    }
+
+    /// Without the plain engine.
+    pub fn alone(engine: E) -> Self {
+        Self { plain: None, strays: false, ..Self::new(engine) }
+    }
+
+    /// With the plain engine in runs alone.
+    pub fn in_runs(engine: E) -> Self {
+        Self { strays: false, ..Self::new(engine) }
+    }
+
+    /// Whether the states of a case are to be changed.
+    pub fn takes_strays(&self, case: &Case) -> bool {
+        self.strays && strays::takes(case)
+    }
+
+    /// Changes the states of a case.
+    fn strays(&mut self, case: &Case, tally: &mut Tally) -> Result<bool, Difference> {
+        let result = strays::run(&mut self.engine, case, &mut tally.beside);
+        tally.beside.failed += result.is_err() as u64;
+        result.map(|()| false).map_err(|found| Difference { call: found.call, fields: found.fields })
     }
 
     fn steps(&mut self, case: &Case, tally: &mut Tally) -> Result<bool, Difference> {
@@ -198,7 +246,7 @@ impl<E: Engine> Bench<E> {
         let mut call = 0;
         while eofs < 2 {
             call += 1;
-            let returned = self.read(case, call)?;
+            let returned = self.read(case, call, tally)?;
             let number = self.answer[NUMBER];
             if number == DOCTYPE || number == STACK_FULL {
                 return self.leave(case, &mut theirs, call, returned, tally);
@@ -271,23 +319,37 @@ impl<E: Engine> Bench<E> {
         self.layout.begin(case.document);
         if number == 0 {
             self.state[MARK] = case.mark;
+            self.plain.iter_mut().for_each(|plain| plain.begin(case.slots, &self.state));
         }
         Ok(number == 0)
     }
 
-    /// Reads on. What is answered has to follow what was, before the crate is asked.
-    fn read(&mut self, case: &Case, call: usize) -> Result<usize, Difference> {
+    /// Reads on. What is answered has to be what the plain engine does and to follow what was, before the crate is asked.
+    fn read(&mut self, case: &Case, call: usize, tally: &mut Tally) -> Result<usize, Difference> {
         self.answer[..ANSWER_SLOTS].fill(CANARY);
-        let returned = self.engine.read(
-            case.document,
-            &mut self.stack[..case.slots],
-            &mut self.state[..state_slots(case)],
-            &mut self.answer[..ANSWER_SLOTS + state_slots(case) - STATE_SLOTS],
-        );
+        let (depth, slots) = (self.state[DEPTH], slots_of(case));
+        let returned =
+            self.engine.read(case.document, &mut self.stack[..case.slots], &mut self.state[..slots.0], &mut self.answer[..slots.1]);
+        let fields = self.beside(case, call, returned, depth, tally);
+        if fields != 0 {
+            return Err(Difference { call, fields });
+        }
         match self.layout.told(case, &self.answer, self.state[POSITION]) {
             0 => Ok(returned),
             fields => Err(Difference { call, fields }),
         }
+    }
+
+    /// The plain engine makes the call that the reader has made, at this depth: what differs.
+    fn beside(&mut self, case: &Case, call: usize, returned: usize, depth: usize, tally: &mut Tally) -> u64 {
+        let Some(plain) = &mut self.plain else { return 0 };
+        if !case.beside {
+            tally.beside.left_out += 1;
+            return 0;
+        }
+        let whole = self.answer[KIND] == EOF || looked_through(call, capacity(case.slots));
+        let left = Left { stack: &self.stack, state: &self.state, answer: &self.answer, returned, depth, slots: slots_of(case), whole };
+        plain.call(&mut self.engine, case, &left, &mut tally.beside)
     }
 
     fn lend(&mut self, slots: usize) {
@@ -302,6 +364,7 @@ impl<E: Engine> Bench<E> {
         let end = if all { case.slots + MARGIN } else { 2 * self.most };
         self.stack[..end].fill(CANARY);
         self.shadow[..end].fill(CANARY);
+        self.plain.iter_mut().for_each(|plain| plain.wipe(end));
         self.most = 0;
     }
 
@@ -316,7 +379,7 @@ impl<E: Engine> Bench<E> {
     }
 
     /// What differs after a call, 0 for nothing.
-    fn compare(&mut self, case: &Case, before: &Before, theirs: &Theirs, seen: &Seen, returned: usize) -> u32 {
+    fn compare(&mut self, case: &Case, before: &Before, theirs: &Theirs, seen: &Seen, returned: usize) -> u64 {
         let depth = theirs.depth();
         let wanted = self.wanted(case, before, theirs, seen);
         let state = [theirs.phase(), theirs.position() + theirs.mark, depth, case.document.len(), case.settings.into(), self.mark];
@@ -453,7 +516,7 @@ impl<E: Engine> Bench<E> {
     }
 
     /// Slots behind those that an answer and a state have.
-    fn margins(&self) -> u32 {
+    fn margins(&self) -> u64 {
         let kept = |slots: &[usize]| slots.iter().all(|&slot| slot == CANARY);
         if kept(&self.state[STATE_SLOTS..]) && kept(&self.answer[ANSWER_SLOTS..]) {
             return 0;
@@ -500,8 +563,8 @@ impl<E: Engine> Bench<E> {
     }
 
     /// After 14 and 15 ours answers Eof, with names open too, and changes nothing.
-    fn stays(&mut self, case: &Case, theirs: &Theirs, call: usize, state: &[usize], tally: &mut Tally) -> Result<u32, Difference> {
-        let returned = self.read(case, call + 1)?;
+    fn stays(&mut self, case: &Case, theirs: &Theirs, call: usize, state: &[usize], tally: &mut Tally) -> Result<u64, Difference> {
+        let returned = self.read(case, call + 1, tally)?;
         let rows = self.rows_hold(case, theirs, state[DEPTH], false, Wish::Some, tally);
         let at = state[POSITION];
         let wanted = [EOF, 0, 0, at, at, at, at, 0, 0, 0, 0, 0];
@@ -524,6 +587,11 @@ fn looked_through(call: usize, depth: usize) -> bool {
 /// The state and the answer are lent with as many slots as they have, or, for a document of odd length, with more.
 fn state_slots(case: &Case) -> usize {
     STATE_SLOTS + if case.document.len() % 2 == 1 { MARGIN / 2 } else { 0 }
+}
+
+/// Those of the state and of the answer.
+fn slots_of(case: &Case) -> (usize, usize) {
+    (state_slots(case), ANSWER_SLOTS + state_slots(case) - STATE_SLOTS)
 }
 
 /// A blank, a tab and what ends a line.
@@ -562,7 +630,7 @@ fn start_of(case: &Case, before: &Before, theirs: &Theirs, seen: &Seen) -> usize
 }
 
 /// A bit for each slot that is not as wanted.
-fn bits(slots: &[usize], wanted: &[usize], first: usize) -> u32 {
+pub fn bits(slots: &[usize], wanted: &[usize], first: usize) -> u64 {
     if slots[..wanted.len()] == *wanted {
         return 0;
     }

@@ -2,9 +2,10 @@
 
 mod layout;
 mod list;
+mod plain;
 mod rows;
 
-use crate::check::Bench;
+use crate::check::{Bench, BESIDE, STRAY};
 use crate::inputs::{self, Amount, Family};
 use crate::ours::*;
 use crate::run::Worker;
@@ -23,10 +24,25 @@ pub struct Fault {
     /// What is made of a list of rows, and of the row of a depth.
     list: fn(&mut List),
     one: fn(&mut One),
+    /// The settings that the plain engine goes by in place of those given, and what is made of its call, or of one with too few slots.
+    turned: fn(u16) -> u16,
+    beside: fn(&mut Call),
+    bare: fn(&mut Call),
 }
 
-const SOUND: Fault =
-    Fault { name: "none", settings: |s| s, when: |_| false, then: |_| (), made: |_, _| (), part: |_| (), list: |_| (), one: |_| () };
+const SOUND: Fault = Fault {
+    name: "none",
+    settings: |s| s,
+    when: |_| false,
+    then: |_| (),
+    made: |_, _| (),
+    part: |_| (),
+    list: |_| (),
+    one: |_| (),
+    turned: |s| s,
+    beside: |_| (),
+    bare: |_| (),
+};
 
 const fn flag(name: &'static str, settings: fn(u16) -> u16) -> Fault {
     Fault { name, settings, ..SOUND }
@@ -50,6 +66,18 @@ const fn listing(name: &'static str, list: fn(&mut List)) -> Fault {
 
 const fn single(name: &'static str, one: fn(&mut One)) -> Fault {
     Fault { name, one, ..SOUND }
+}
+
+const fn turned(name: &'static str, turned: fn(u16) -> u16) -> Fault {
+    Fault { name, turned, ..SOUND }
+}
+
+const fn beside(name: &'static str, beside: fn(&mut Call)) -> Fault {
+    Fault { name, beside, ..SOUND }
+}
+
+const fn bare(name: &'static str, bare: fn(&mut Call)) -> Fault {
+    Fault { name, bare, ..SOUND }
 }
 
 /// A call that was answered, for a fault to change.
@@ -220,10 +248,13 @@ impl Engine for Faulty<'_> {
     }
 
     fn read(&mut self, document: &[u8], stack: &mut [usize], state: &mut [usize], answer: &mut [usize]) -> usize {
+        if is_short(state, answer) {
+            return Archive.read(document, stack, state, answer);
+        }
         let mut before = [0; STATE_SLOTS];
         before.copy_from_slice(&state[..STATE_SLOTS]);
         self.before = before;
-        state[SETTINGS] = (self.fault.settings)(before[SETTINGS] as u16).into();
+        state[SETTINGS] = changed(before[SETTINGS], self.fault.settings);
         Archive.read(document, stack, state, answer);
         state[SETTINGS] = before[SETTINGS];
         let Self { last_place, last_number, eofs, .. } = *self;
@@ -238,6 +269,23 @@ impl Engine for Faulty<'_> {
         self.last_number = answer[NUMBER];
         self.eofs += (answer[KIND] == EOF) as usize;
         returned
+    }
+
+    /// What it answered before does not count here: a fault of the plain engine goes by one call alone.
+    fn plain(&mut self, document: &[u8], stack: &mut [usize], state: &mut [usize], answer: &mut [usize]) -> usize {
+        let short = is_short(state, answer);
+        let mut before = [0; STATE_SLOTS];
+        before.iter_mut().zip(&*state).for_each(|(before, slot)| *before = *slot);
+        if let Some(settings) = state.get_mut(SETTINGS) {
+            *settings = changed(*settings, self.fault.turned);
+        }
+        let number = Archive.plain(document, stack, state, answer);
+        if let Some(settings) = state.get_mut(SETTINGS) {
+            *settings = before[SETTINGS];
+        }
+        let mut call = Call { document, before, stack, state, answer, returned: Some(number), last_place: 0, last_number: 0, eofs: 0 };
+        (if short { self.fault.bare } else { self.fault.beside })(&mut call);
+        call.returned.unwrap_or(number)
     }
 
     fn content(&mut self, document: &[u8], from: usize, to: usize) -> (usize, Part) {
@@ -260,6 +308,19 @@ impl Engine for Faulty<'_> {
         let mut one = One { stack, state, depth, row, number };
         (self.fault.one)(&mut one);
         one.number
+    }
+}
+
+/// Too few slots are lent.
+fn is_short(state: &[usize], answer: &[usize]) -> bool {
+    state.len() < STATE_SLOTS || answer.len() < ANSWER_SLOTS
+}
+
+/// The settings that are gone by in place of these. A number that stands for none stays.
+fn changed(settings: usize, by: fn(u16) -> u16) -> usize {
+    match u16::try_from(settings) {
+        Ok(known) if known <= THEIR_ALL | OPEN_NAMES => by(known).into(),
+        _ => settings,
     }
 }
 
@@ -287,23 +348,36 @@ pub fn all_of<F: Sync>(faults: &[F], name: fn(&F) -> &'static str, notice: impl 
     noticed.into_inner().unwrap()
 }
 
-/// Runs jobs until a fault is noticed: after how many inputs, by which family, and what fails.
-fn notice(fault: &Fault, families: &[Family]) -> Option<(u64, &'static str, u32)> {
-    let mut worker = Worker::new(Bench::new(Faulty::new(fault)), true);
+/// Runs jobs by a bench with a fault until it is noticed: after how many inputs, by which family, and what fails.
+fn notice(bench: Bench<Faulty>, families: &[Family]) -> Option<(u64, &'static str, u64)> {
+    let mut worker = Worker::new(bench, true);
     let (inputs, family) = worker.notice(families)?;
     let fields = worker.found.first().map_or(0, |(_, difference)| difference.fields);
     Some((inputs, family, fields))
 }
 
-/// Tries every fault by the quick inputs: true if all are noticed, and those of the layout by what it says of them.
+/// Tries every fault by the quick inputs: true if all are noticed, those of the layout by what it says of them, and those of the plain engine by the reader beside it. The plain
+/// engine is not beside a fault of the reader, which the crate has to show.
 pub fn run(seed: u64) -> bool {
     let faults: Vec<&Fault> = list::ALL.iter().copied().flatten().chain(rows::ALL).collect();
     let families = inputs::all(Amount::Quick, seed);
-    let plain = |(inputs, family, _)| (inputs, family);
-    let noticed = all_of(&faults, |fault| fault.name, |fault| notice(fault, &families).map(plain));
-    let by_layout = |laid: &layout::Laid| notice(&laid.fault, &families).filter(|noticed| noticed.2 == laid.fields).map(plain);
+    let place = |(inputs, family, _)| (inputs, family);
+    let alone = |fault: &Fault| notice(Bench::alone(Faulty::new(fault)), &families);
+    let noticed = all_of(&faults, |fault| fault.name, |fault| alone(fault).map(place));
+    let by_layout = |laid: &layout::Laid| alone(&laid.fault).filter(|noticed| noticed.2 == laid.fields).map(place);
     let told = all_of(layout::ALL, |laid| laid.fault.name, by_layout);
+    let in_runs = |fault: &Fault| notice(Bench::in_runs(Faulty::new(fault)), &families).filter(|noticed| noticed.2 & BESIDE != 0);
+    let in_strays = |fault: &Fault| notice(Bench::new(Faulty::new(fault)), &families).filter(|noticed| noticed.2 & STRAY != 0);
+    let slots: Vec<&plain::Slot> = plain::SLOTS.iter().copied().flatten().collect();
+    let by_slot = |slot: &&plain::Slot| in_runs(&slot.fault).filter(|noticed| noticed.2 == slot.fields).map(place);
+    let spoilt = all_of(&slots, |slot| slot.fault.name, by_slot);
+    let others: Vec<&Fault> = plain::OTHERS.iter().copied().flatten().collect();
+    let differ = all_of(&others, |fault| fault.name, |fault| in_runs(fault).map(place));
+    let stray = all_of(plain::STRAYS, |fault| fault.name, |fault| in_strays(fault).map(place));
     println!("layout: {told} of {} faults noticed by the layout alone", layout::ALL.len());
+    println!("plain: {spoilt} of {} faults of one slot of the plain engine noticed by that slot alone", slots.len());
+    println!("plain: {differ} of {} other faults of the plain engine noticed", others.len());
+    println!("plain: {stray} of {} faults of the plain engine noticed in states that no run has", plain::STRAYS.len());
     println!("compare: {noticed} of {} faults noticed", faults.len());
-    noticed == faults.len() && told == layout::ALL.len()
+    noticed == faults.len() && told == layout::ALL.len() && [spoilt, differ, stray] == [slots.len(), others.len(), plain::STRAYS.len()]
 }

@@ -51,7 +51,7 @@ impl Layout {
     }
 
     /// An answer, and the position that it leaves: what fails, 0 for nothing.
-    pub fn told(&mut self, case: &Case, answer: &[usize], position: usize) -> u32 {
+    pub fn told(&mut self, case: &Case, answer: &[usize], position: usize) -> u64 {
         if self.laid.calls == 0 {
             self.end = order_mark(case.document);
             self.laid.marks += (self.end > 0) as u64;
@@ -65,7 +65,7 @@ impl Layout {
     }
 
     /// The piece follows the parts so far, with nothing but white space between, and ends at the position.
-    fn follows(&mut self, case: &Case, answer: &[usize], position: usize) -> u32 {
+    fn follows(&mut self, case: &Case, answer: &[usize], position: usize) -> u64 {
         let (from, to) = (answer[PIECE_FROM], answer[PIECE_TO]);
         let Some(piece) = case.document.get(from..to) else { return ORDER };
         let between = case.document.get(self.end..from).unwrap_or_default();
@@ -103,7 +103,7 @@ impl Layout {
     }
 
     /// Counts by the bytes, whatever the order of the pieces: each byte before the position is in one part, and none behind it in any.
-    fn count(&self, case: &Case, position: usize) -> u32 {
+    fn count(&self, case: &Case, position: usize) -> u64 {
         let mark = order_mark(case.document);
         let one = |at: usize| {
             let held = self.held[at / WORD] >> (at % WORD) & 1 == 1;
@@ -126,7 +126,7 @@ impl Layout {
     }
 
     /// The run is over, at this position: what fails, 0 for nothing.
-    pub fn over(&mut self, case: &Case, position: usize, all: &mut Laid) -> u32 {
+    pub fn over(&mut self, case: &Case, position: usize, all: &mut Laid) -> u64 {
         self.laid.runs = 1;
         self.laid.bytes = position as u64;
         self.laid.left = (self.refused && position < case.document.len()) as u64;

@@ -19,7 +19,7 @@ pub struct Told<'a> {
 /// A row: its tag in docs/DIFFERENCES.md, the only fields that differ, when they do, and what both sides then say.
 struct Row {
     tag: &'static str,
-    fields: u32,
+    fields: u64,
     due: fn(&Told) -> bool,
     holds: fn(&Told) -> bool,
 }
@@ -34,7 +34,7 @@ pub const COUNT: usize = ROWS.len();
 pub const TAGS: [&str; COUNT] = [ROWS[0].tag, ROWS[1].tag, ROWS[2].tag];
 
 /// The row of a call in which the sides differ in these fields, none where they are alike and have to be; an error if they should not differ so.
-pub fn which(fields: u32, told: &Told) -> Result<Option<usize>, ()> {
+pub fn which(fields: u64, told: &Told) -> Result<Option<usize>, ()> {
     match ROWS.iter().position(|row| (row.due)(told)) {
         Some(row) if ROWS[row].fields == fields && (ROWS[row].holds)(told) => Ok(Some(row)),
         None if fields == 0 => Ok(None),

@@ -1,5 +1,5 @@
-//! Compares Sporebasket with quick-xml 0.42.0, call by call, its column reader with an account over quick-xml's events, its reading of attributes and of
-//! references as characters with quick-xml's own, its scans fed in pieces with quick-xml's parsers, and what one program is told by quick-xml and by the Rust package in
+//! Compares Sporebasket with quick-xml 0.42.0, call by call, its reader with its plain engine, its column reader with an account over quick-xml's events, its reading of
+//! attributes and of references as characters with quick-xml's own, its scans fed in pieces with quick-xml's parsers, and what one program is told by quick-xml and by the Rust package in
 //! its place. See `tools/compare` and `tools/record`.
 
 #![forbid(unsafe_code)]
@@ -15,11 +15,13 @@ mod layout;
 mod listed;
 mod ours;
 mod pieces;
+mod plain;
 mod record;
 mod rows;
 mod run;
 mod settings;
 mod shrink;
+mod strays;
 mod summary;
 mod swap;
 mod theirs;
@@ -163,10 +165,14 @@ fn readers(wish: &Wish) -> bool {
         let (kept, difference) = shrink::shrink(&mut bench, kept, *difference);
         shrink::show(&mut bench.engine, &kept, difference);
     }
-    let missing = if of_files { Vec::new() } else { all.missing(&summary::REFUSALS) };
+    let mut missing = if of_files { Vec::new() } else { all.missing(&summary::REFUSALS) };
+    if !of_files {
+        missing.extend(all.beside.missing(all.calls));
+    }
     missing.iter().for_each(|what| println!("never seen: {what}"));
     println!("{}", all.laid.line());
     println!("{}", all.rows.line());
+    println!("{}", all.beside.line());
     println!("compare: {} inputs, {} calls, {} unlisted differences", all.inputs, all.calls, all.differences);
     all.differences == 0 && all.inputs > 0 && missing.is_empty()
 }

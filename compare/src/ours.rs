@@ -106,6 +106,8 @@ pub fn capacity(slots: usize) -> usize {
 pub trait Engine {
     fn make(&mut self, document: &[u8], settings: usize, state: &mut [usize]) -> usize;
     fn read(&mut self, document: &[u8], stack: &mut [usize], state: &mut [usize], answer: &mut [usize]) -> usize;
+    /// The same call by the plain engine.
+    fn plain(&mut self, document: &[u8], stack: &mut [usize], state: &mut [usize], answer: &mut [usize]) -> usize;
     /// The part of the document that is handed out for a span: the number answered, and the part's two ends.
     fn content(&mut self, document: &[u8], from: usize, to: usize) -> (usize, Part);
     /// Fills a list with the rows of the open names, and writes how many: the number answered.
@@ -125,6 +127,10 @@ impl Engine for Archive {
 
     fn read(&mut self, document: &[u8], stack: &mut [usize], state: &mut [usize], answer: &mut [usize]) -> usize {
         lent::read_event(document, stack, state, answer)
+    }
+
+    fn plain(&mut self, document: &[u8], stack: &mut [usize], state: &mut [usize], answer: &mut [usize]) -> usize {
+        lent::plain_read_event(document, stack, state, answer)
     }
 
     fn content(&mut self, document: &[u8], from: usize, to: usize) -> (usize, Part) {

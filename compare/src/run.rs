@@ -21,6 +21,13 @@ const SHORT: usize = 4;
 /// with the count of a family's settings and stacks, so that each of these has its turn.
 const OTHERS: u64 = 11;
 const MARKED: u64 = 13;
+/// Of all cases that are short one in so many has its states changed, counted on from this times the number of its job, since a job may have few.
+const STRAYS: u64 = 2003;
+const APART: u64 = 331;
+/// The plain engine reads every case with a document of at most so many bytes. The longer ones have more bytes than all others together: of these it reads one in so many, by the
+/// numbers of the case and of its job, which is each document of the greatest length with one of its settings, in turn.
+const LONG: usize = 1 << 26;
+const SHARE: u64 = 4;
 
 /// What runs cases of one sort on both sides.
 pub trait Runs {
@@ -57,7 +64,8 @@ pub struct Worker<R: Runs> {
     pub found: Vec<Found<R>>,
     /// Stop at the first difference.
     first: bool,
-    /// How many cases the job has given.
+    /// The job at hand, and how many cases it has given.
+    job: u64,
     pub given: u64,
     /// The case at hand, for when it panics.
     at: Option<R::Kept>,
@@ -66,7 +74,7 @@ pub struct Worker<R: Runs> {
 
 impl<R: Runs> Worker<R> {
     pub fn new(bench: R, first: bool) -> Self {
-        Self { bench, tally: R::Tally::default(), found: Vec::new(), first, given: 0, at: None, keep_at: false }
+        Self { bench, tally: R::Tally::default(), found: Vec::new(), first, job: 0, given: 0, at: None, keep_at: false }
     }
 
     /// Runs one case: what is told of it, if nothing differs.
@@ -97,7 +105,7 @@ where
     /// Runs a job. If it panics, it is run again to see at which case.
     pub fn job(&mut self, family: &Family, job: usize) -> Flow {
         let run = |worker: &mut Self| {
-            worker.given = 0;
+            (worker.job, worker.given) = (job as u64, 0);
             catch_unwind(AssertUnwindSafe(|| (family.run)(job, worker)))
         };
         match run(self) {
@@ -130,9 +138,13 @@ where
 
 impl<E: Engine> Sink for Worker<Bench<E>> {
     fn case(&mut self, document: &[u8], settings: u16, slots: usize) -> Flow {
-        let case = Case::new(document, settings, slots);
         self.given += 1;
+        let beside = document.len() <= LONG || (self.given + self.job).is_multiple_of(SHARE);
+        let case = Case { beside, ..Case::new(document, settings, slots) };
         let open = self.one(&case)?.unwrap_or(false);
+        if (self.given + APART * self.job).is_multiple_of(STRAYS) && self.bench.takes_strays(&case) {
+            self.one(&Case { stray: true, ..case })?;
+        }
         if !open && document.len() > SHORT && !self.given.is_multiple_of(OTHERS) {
             return ON;
         }

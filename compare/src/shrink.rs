@@ -1,8 +1,10 @@
 //! Makes an input that shows a difference smaller, and prints it with what both sides say.
 
-use crate::check::{Bench, Case, Difference, FIELDS, LAYOUT, OPEN};
+use crate::check::{Bench, Case, Difference, BESIDE, FIELDS, LAYOUT, OPEN, PLAIN, STRAY};
 use crate::ours::*;
+use crate::plain::Beside;
 use crate::run::Runs;
+use crate::strays;
 use crate::summary::Tally;
 use crate::trace;
 
@@ -13,15 +15,19 @@ pub struct Kept {
     pub settings: u16,
     pub slots: usize,
     pub mark: usize,
+    pub beside: bool,
+    pub stray: bool,
 }
 
 impl Kept {
     pub fn of(case: &Case) -> Self {
-        Self { document: case.document.to_vec(), settings: case.settings, slots: case.slots, mark: case.mark }
+        let Case { settings, slots, mark, beside, stray, .. } = *case;
+        Self { document: case.document.to_vec(), settings, slots, mark, beside, stray }
     }
 
     pub fn case(&self) -> Case<'_> {
-        Case { document: &self.document, settings: self.settings, slots: self.slots, mark: self.mark }
+        let Kept { settings, slots, mark, beside, stray, .. } = *self;
+        Case { document: &self.document, settings, slots, mark, beside, stray }
     }
 }
 
@@ -102,9 +108,19 @@ pub fn show_case(kept: &Kept) -> bool {
 /// Prints an input, what differs in which call, and all answers up to that call.
 pub fn show<E: Engine>(engine: &mut E, kept: &Kept, difference: Difference) {
     let case = kept.case();
-    let fields: Vec<&str> = (0..FIELDS.len()).filter(|i| difference.fields >> i & 1 == 1).map(|i| FIELDS[i]).collect();
-    println!("difference in call {}: {}", difference.call, fields.join(", "));
+    let named = |fields: u64| (0..FIELDS.len()).filter(|i| fields >> i & 1 == 1).map(|i| FIELDS[i]).collect::<Vec<_>>().join(", ");
+    match difference.fields & BESIDE {
+        0 => println!("difference in call {}: {}", difference.call, named(difference.fields)),
+        beside => {
+            println!("difference of the plain engine from the reader in call {}: {}", difference.call, named((beside & !STRAY) >> PLAIN))
+        }
+    }
     if !show_case(kept) {
+        return;
+    }
+    if kept.stray {
+        println!("  in a state that no run has, in the place of that before the call");
+        strays::run(engine, &case, &mut Beside::default()).err().iter().for_each(|found| found.show());
         return;
     }
     for line in trace::our_lines(engine, &case, difference.call + 1) {
@@ -112,6 +128,10 @@ pub fn show<E: Engine>(engine: &mut E, kept: &Kept, difference: Difference) {
     }
     for line in trace::their_lines(&case).take(difference.call + 1) {
         println!("    the crate  {line}");
+    }
+    if difference.fields & BESIDE != 0 {
+        println!("    reader     {}", trace::slots(engine, E::read, &case, difference.call));
+        println!("    plain      {}", trace::slots(engine, E::plain, &case, difference.call));
     }
     if difference.fields & LAYOUT != 0 {
         for line in trace::our_pieces(engine, &case, difference.call) {

@@ -3,6 +3,7 @@
 use crate::layout::Laid;
 use crate::listed;
 use crate::ours::*;
+use crate::plain::Beside;
 use crate::rows::Listed;
 use crate::run::Counts;
 
@@ -23,6 +24,7 @@ pub struct Tally {
     pub left: [u64; 3],
     pub laid: Laid,
     pub rows: Listed,
+    pub beside: Beside,
     pub differences: u64,
 }
 
@@ -37,6 +39,7 @@ impl Default for Tally {
             left: [0; 3],
             laid: Laid::default(),
             rows: Listed::default(),
+            beside: Beside::default(),
             differences: 0,
         }
     }
@@ -53,6 +56,7 @@ impl Counts for Tally {
         pairs(&mut self.left, &other.left);
         self.laid.add(&other.laid);
         self.rows.add(&other.rows);
+        self.beside.add(&other.beside);
     }
 
     fn differences(&mut self) -> &mut u64 {

@@ -1,6 +1,6 @@
 //! Lines that show a document, settings and answers, in the form that the recorded cases have.
 
-use crate::check::{Case, CANARY};
+use crate::check::{Case, CANARY, SMALL};
 use crate::ours::*;
 use crate::theirs::{Seen, Theirs};
 
@@ -113,6 +113,18 @@ struct Lent<'a> {
     state: &'a [usize],
     answer: &'a [usize],
 }
+
+/// All that so many calls, by the reader or by the plain engine, have left, with what the last returned.
+pub fn slots<E: Engine>(engine: &mut E, read: Read<E>, case: &Case, calls: usize) -> String {
+    let (mut state, mut answer, mut stack) = ([0; STATE_SLOTS], [0; ANSWER_SLOTS], vec![CANARY; case.slots]);
+    engine.make(case.document, case.settings.into(), &mut state);
+    state[MARK] = case.mark;
+    let returned = (0..calls).fold(0, |_, _| read(engine, case.document, &mut stack, &mut state, &mut answer));
+    let names = stack.iter().rposition(|&slot| slot != CANARY).map_or(0, |last| last + 1);
+    format!("returned {returned}, answer {answer:?}, state {state:?}, stack {:?}", &stack[..names.min(SMALL)])
+}
+
+type Read<E> = fn(&mut E, &[u8], &mut [usize], &mut [usize], &mut [usize]) -> usize;
 
 /// A line for each answer of our side.
 fn answers<E: Engine>(engine: &mut E, case: &Case, most: usize, line: impl Fn(&mut E, Lent) -> String) -> Vec<String> {

@@ -3,6 +3,8 @@
  * a tag stand behind it, a line to each; --references: then the bytes of its character stand behind a reference, in hexadecimal; or --rows: then the open names
  * stand behind each refusal and behind the end of file, a line to each.
  *
+ * With --plain before all that it reads by the plain engine, and prints the same.
+ *
  *   cc -I include hosts/c/events.c target/host/libsporebasket.a -o events
  */
 #include "sporebasket.h"
@@ -12,9 +14,10 @@
 
 #include <stdio.h>
 #include <stdlib.h>
+#include <string.h>
 
 /* 0 if there is no memory for the open names. */
-static int list(const uint8_t *document, size_t length, struct asked asked, struct lent *lent)
+static int list(engine *read_event, const uint8_t *document, size_t length, struct asked asked, struct lent *lent)
 {
     size_t refusal = sporebasket_new(document, length, settings_of(asked), lent->state, SPOREBASKET_STATE_SLOTS);
 
@@ -27,7 +30,7 @@ static int list(const uint8_t *document, size_t length, struct asked asked, stru
         if (!make_room(lent)) {
             return 0;
         }
-        refusal = read_on(document, length, lent);
+        refusal = read_by(read_event, document, length, lent);
         say(document, length, asked, lent);
         /* 17 does not come to who keeps the state as it was left; it would come again for ever */
     } while (refusal != SPOREBASKET_BAD_STATE && lent->answer[SPOREBASKET_ANSWER_KIND] != SPOREBASKET_EOF);
@@ -36,13 +39,15 @@ static int list(const uint8_t *document, size_t length, struct asked asked, stru
 
 int main(int argc, char **argv)
 {
-    int file = 1;
-    struct asked asked = asked_by(argc > 1 ? argv[1] : NULL, &file);
+    int plain = argc > 1 && strcmp(argv[1], "--plain") == 0;
+    engine *read_event = plain ? sporebasket_plain_read_event : sporebasket_read_event;
+    int file = 1 + plain;
+    struct asked asked = asked_by(argc > file ? argv[file] : NULL, &file);
     FILE *in = argc > file ? fopen(argv[file], "rb") : stdin;
     struct lent lent = {NULL, 0, {0}, {0}};
     size_t length = 0;
     uint8_t *document = in == NULL ? NULL : whole(in, &length);
-    int done = document != NULL && list(document, length, asked, &lent) && fflush(stdout) == 0 && !ferror(stdout);
+    int done = document != NULL && list(read_event, document, length, asked, &lent) && fflush(stdout) == 0 && !ferror(stdout);
 
     if (!done) {
         perror("events");

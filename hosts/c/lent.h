@@ -43,11 +43,21 @@ static int make_room(struct lent *lent)
     return 1;
 }
 
-/* Reads on: 0 for an event, or the number of a refusal. There has to be room. */
-static size_t read_on(const uint8_t *document, size_t length, struct lent *lent)
+/* An engine of the archive: sporebasket_read_event, or sporebasket_plain_read_event. */
+typedef size_t engine(const uint8_t *document, size_t length, size_t *stack, size_t stack_slots, size_t *state, size_t state_slots,
+                      size_t *answer, size_t answer_slots);
+
+/* Reads on by an engine: 0 for an event, or the number of a refusal. There has to be room. */
+static size_t read_by(engine *read_event, const uint8_t *document, size_t length, struct lent *lent)
 {
-    return sporebasket_read_event(document, length, lent->stack, lent->names * SPOREBASKET_NAME_SLOTS, lent->state, SPOREBASKET_STATE_SLOTS,
-                                  lent->answer, SPOREBASKET_ANSWER_SLOTS);
+    return read_event(document, length, lent->stack, lent->names * SPOREBASKET_NAME_SLOTS, lent->state, SPOREBASKET_STATE_SLOTS, lent->answer,
+                      SPOREBASKET_ANSWER_SLOTS);
+}
+
+/* The same by the main engine. */
+static inline size_t read_on(const uint8_t *document, size_t length, struct lent *lent)
+{
+    return read_by(sporebasket_read_event, document, length, lent);
 }
 
 /* Whether the answer is an opening tag or an empty element, which may have attributes. */

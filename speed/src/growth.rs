@@ -16,8 +16,8 @@ const ROUNDS: usize = 7;
 /// A ratio above it is not linear, unless the other one is below: a cache that is full between two lengths makes one step, and no second one.
 const LIMIT: f64 = 3.0;
 
-/// Measures and prints. The first runner is the crate; the others are held to the limit.
-pub fn run(runners: &mut Runners) -> Result<(), String> {
+/// Measures and prints. The first runner is what the others stand beside; these, of such a name, are held to the limit.
+pub fn run(runners: &mut Runners, whose: &str) -> Result<(), String> {
     println!("rounds:    {ROUNDS}: the least of the times, and the median of the rounds' ratios");
     let mut above = Vec::new();
     println!("\nNanoseconds a byte at {} bytes, and the ratio of each to the one before:\n", LENGTHS.map(grouped).join(" / "));
@@ -27,7 +27,7 @@ pub fn run(runners: &mut Runners) -> Result<(), String> {
     if !above.is_empty() {
         return Err(format!("both ratios above {LIMIT}: {}", above.join("; ")));
     }
-    println!("\nspeed: no two ratios of ours are above {LIMIT}");
+    println!("\nspeed: no two ratios of {whose} are above {LIMIT}");
     Ok(())
 }
 
@@ -75,7 +75,7 @@ fn measured(rows: &[Row], runners: &mut Runners, unit: impl Fn(&Row) -> f64) -> 
     Ok((answers, samples))
 }
 
-/// The runner's time for each row, and the ratio of each to the one before. Where all ratios are above the limit they are kept, but for the crate's.
+/// The runner's time for each row, and the ratio of each to the one before. Where all ratios are above the limit they are kept, but for the first runner's.
 fn cells(
     name: &str,
     (column, runners): (usize, &Runners),

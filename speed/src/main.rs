@@ -13,6 +13,7 @@ mod large;
 mod machine;
 mod memory;
 mod pieces;
+mod plain;
 mod runners;
 mod table;
 mod worst;
@@ -26,7 +27,7 @@ use std::process::ExitCode;
 use std::{env, fs};
 
 const USAGE: &str = "\
-usage: speed [--quick | --rounds N] [--trim] [--beside NAME=PATH] [--also NAME=PATH].. | (--growth | --large) [--also NAME=PATH].. | --attributes | --escape | --pieces [--quick | --rounds N] | --describe | --write FOLDER";
+usage: speed [--quick | --rounds N] [--trim] [--beside NAME=PATH] [--also NAME=PATH].. | (--growth | --large) [--also NAME=PATH].. | --attributes | --escape | (--pieces | --plain) [--quick | --rounds N] | --plain --growth | --describe | --write FOLDER";
 
 /// How many rounds there are: enough for the times to settle, and for a look.
 const ROUNDS: usize = 1000;
@@ -39,6 +40,8 @@ enum Wish {
     Attributes,
     Escape,
     Pieces { rounds: Option<usize> },
+    Plain { rounds: usize },
+    PlainGrowth,
     Describe,
     Write(PathBuf),
 }
@@ -54,8 +57,8 @@ fn build(argument: &str) -> Option<Build> {
 }
 
 fn wish() -> Option<Wish> {
-    let (mut trim, mut rounds, mut growth, mut large, mut pieces, mut beside, mut also) =
-        (false, None, false, false, false, None, Vec::new());
+    let (mut trim, mut rounds, mut growth, mut large, mut pieces, mut plain, mut beside, mut also) =
+        (false, None, false, false, false, false, None, Vec::new());
     let mut arguments = env::args().skip(1);
     while let Some(argument) = arguments.next() {
         match argument.as_str() {
@@ -64,6 +67,7 @@ fn wish() -> Option<Wish> {
             "--growth" => growth = true,
             "--large" => large = true,
             "--pieces" => pieces = true,
+            "--plain" => plain = true,
             "--trim" => trim = true,
             "--beside" if beside.is_none() => beside = Some(build(&arguments.next()?)?),
             "--also" => also.push(build(&arguments.next()?)?),
@@ -73,6 +77,11 @@ fn wish() -> Option<Wish> {
             "--write" => return Some(Wish::Write(arguments.next()?.into())),
             _ => return None,
         }
+    }
+    if plain {
+        let alone = !large && !pieces && !trim && beside.is_none() && also.is_empty() && !(growth && rounds.is_some());
+        let wish = if growth { Wish::PlainGrowth } else { Wish::Plain { rounds: rounds.unwrap_or(ROUNDS) } };
+        return alone.then_some(wish);
     }
     if pieces {
         return (!growth && !large && !trim && beside.is_none() && also.is_empty()).then_some(Wish::Pieces { rounds });
@@ -104,6 +113,14 @@ fn main() -> ExitCode {
         Wish::Pieces { rounds } => {
             machine::print();
             pieces::run(rounds)
+        }
+        Wish::Plain { rounds } => {
+            machine::print();
+            plain::run(rounds)
+        }
+        Wish::PlainGrowth => {
+            machine::print();
+            plain::growing()
         }
         Wish::Describe => {
             inputs::describe();
@@ -143,19 +160,19 @@ fn table(trim: bool, rounds: usize, beside: Option<Build>, also: Vec<Build>) -> 
     runners.push(Box::new(Package));
     machine::print();
     if trim {
-        return table::run(&table::trimmed(), &mut runners, rounds);
+        return table::run(&table::trimmed(), &mut runners, rounds).map(|_| ());
     }
     #[cfg(feature = "expat")]
     runners.push(Box::new(runners::expat::Expat));
     #[cfg(feature = "libxml2")]
     runners.push(Box::new(runners::libxml2::LibXml2));
-    table::run(&table::rows(), &mut runners, rounds)
+    table::run(&table::rows(), &mut runners, rounds).map(|_| ())
 }
 
 fn growth(also: Vec<Build>) -> Result<(), String> {
     let mut runners = builds(None, also)?;
     machine::print();
-    growth::run(&mut runners)
+    growth::run(&mut runners, "ours")
 }
 
 fn large(also: Vec<Build>) -> Result<(), String> {

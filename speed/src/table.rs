@@ -25,8 +25,8 @@ pub fn trimmed() -> Vec<Row> {
     inputs::WHITE.iter().map(|input| Row { name: input.name.into(), document: (input.make)(LENGTH), settings }).collect()
 }
 
-/// Measures and prints. The first runner is the one that the others are held to.
-pub fn run(rows: &[Row], runners: &mut [Box<dyn Runner>], count: usize) -> Result<(), String> {
+/// Measures and prints. The first runner is the one that the others are held to. Answers the samples of each row and runner.
+pub fn run(rows: &[Row], runners: &mut [Box<dyn Runner>], count: usize) -> Result<Vec<Vec<Samples>>, String> {
     let tallies = rows.iter().map(|row| told(row, runners)).collect::<Result<Vec<_>, _>>()?;
     let samples = rounds(rows, runners, count);
     println!("rounds:    {count}, each runner once on each input in each");
@@ -41,7 +41,7 @@ pub fn run(rows: &[Row], runners: &mut [Box<dyn Runner>], count: usize) -> Resul
         "The columns of two numbers are ratios to the time of {}: least time over least time / the median of the rounds' ratios.",
         runners[0].name()
     );
-    Ok(())
+    Ok(samples)
 }
 
 fn line(row: &Row, tally: Tally, samples: &[Samples]) -> Vec<String> {

@@ -288,7 +288,7 @@ impl Runs for Bench {
             fields |= self.beside(content, false, tally);
         }
         if fields != 0 {
-            return Err(Difference { call: 1, fields });
+            return Err(Difference { call: 1, fields: fields.into() });
         }
         tally.tell(&self.reading);
         Ok(())

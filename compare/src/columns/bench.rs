@@ -166,7 +166,7 @@ impl Runs for Bench {
         let (returned, wanted) = self.both(case);
         let fields = self.fields(case, returned, wanted);
         if fields != 0 {
-            return Err(Difference { call: 1, fields });
+            return Err(Difference { call: 1, fields: fields.into() });
         }
         if wanted == BAD_STATE {
             tally.numbers[wanted] += 1;

@@ -306,7 +306,7 @@ impl Runs for Bench {
             fields |= self.beside_reference(content, tally);
         }
         if fields != 0 {
-            return Err(Difference { call: 1, fields });
+            return Err(Difference { call: 1, fields: fields.into() });
         }
         tally.tell(&self.reading);
         Ok(())

@@ -7,7 +7,7 @@ use crate::ours::*;
 pub struct Laid {
     pub fault: Fault,
     /// What fails: just this.
-    pub fields: u32,
+    pub fields: u64,
 }
 
 /// A piece is out of order or not up to the position, and a byte is in two parts or in none.

@@ -323,7 +323,7 @@ impl Runs for Bench {
         self.tally.contents += 1;
         let run = self.all(case);
         std::mem::swap(&mut self.tally, tally);
-        run.map_err(|fields| Difference { call: 1, fields })
+        run.map_err(|fields| Difference { call: 1, fields: fields.into() })
     }
 
     fn reset(&mut self) {

@@ -63,7 +63,7 @@ impl Runs for Bench {
     fn run(&mut self, case: &Case, tally: &mut Tally) -> Result<(), Difference> {
         tally.inputs += 1;
         tally.settings[usize::from(case.settings)] += 1;
-        self.compare(case, tally).map_err(|differ| Difference { call: differ.ours, fields: differ.sort })
+        self.compare(case, tally).map_err(|differ| Difference { call: differ.ours, fields: differ.sort.into() })
     }
 
     fn reset(&mut self) {}

@@ -36,7 +36,7 @@ mod sealed {
 
     pub trait Sealed {}
 
-    impl<R> Sealed for crate::Reader<R> {}
+    impl<R, E> Sealed for crate::reader::ReaderBy<R, E> {}
     impl Sealed for crate::Error {}
     impl Sealed for str {}
     impl Sealed for crate::events::attributes::AttrError {}
@@ -50,7 +50,7 @@ mod sealed {
     impl Sealed for BytesRef<'_> {}
 }
 
-/// What a [`Reader`](crate::Reader) tells beyond quick-xml's.
+/// What a [`Reader`](crate::Reader), by either engine, tells beyond quick-xml's.
 pub trait ReaderExt<'a>: sealed::Sealed + Sized {
     /// A reader with a limit: at most so many names may be open, and never more than [`MOST_NAMES`](crate::lent::MOST_NAMES). A name more is refused
     /// ([`NameStackFull`](Refused::NameStackFull)). The room is taken as names open, and ends at 16 bytes for each name that is asked for.

@@ -31,6 +31,7 @@ use crate::ext::{Phase, WayDown};
 use crate::layout::{is_white, MARK};
 use crate::lent;
 use crate::name::QName;
+use crate::plain::Main;
 use crate::raw::{scan, LONGEST, MOST_NAMES, SCAN_SLOTS};
 use crate::reader::Config;
 use crate::run::Run;
@@ -323,7 +324,7 @@ impl Feeder {
             return Ok(None);
         }
         self.look = None;
-        match self.run.read(&self.bytes) {
+        match self.run.read::<Main>(&self.bytes) {
             Ok(piece) => Ok(Some(self.run.event(&self.bytes, piece))),
             Err(number) => Err(self.run.refused(&self.bytes, number)),
         }

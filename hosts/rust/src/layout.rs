@@ -2,7 +2,7 @@
 
 use crate::config::Config;
 use crate::raw::{answer, state, ANSWER_SLOTS, STATE_SLOTS};
-use crate::Reader;
+use crate::reader::ReaderBy;
 use std::error;
 use std::fmt;
 use std::ops::Range;
@@ -37,7 +37,7 @@ use std::ops::Range;
 /// # Ok::<(), Box<dyn std::error::Error>>(())
 /// ```
 ///
-/// [`read_to_end`](Reader::read_to_end), [`read_text`](Reader::read_text) and the like make many calls, of which an account would be told the last alone: they are not for a reader that is
+/// [`read_to_end`](ReaderBy::read_to_end), [`read_text`](ReaderBy::read_text) and the like make many calls, of which an account would be told the last alone: they are not for a reader that is
 /// held to one. An account takes as many bytes as the document has.
 #[derive(Clone)]
 pub struct Layout<'a> {
@@ -96,7 +96,7 @@ impl<'a> Layout<'a> {
     /// assert_eq!(layout.add(&reader).unwrap_err().to_string(), "a part ends at byte 4, and the next begins at 1");
     /// # Ok::<(), Box<dyn std::error::Error>>(())
     /// ```
-    pub fn add(&mut self, reader: &Reader<&[u8]>) -> Result<Parts, LayoutError> {
+    pub fn add<E>(&mut self, reader: &ReaderBy<&[u8], E>) -> Result<Parts, LayoutError> {
         let (answer, state) = reader.last();
         self.add_lent(answer, state)
     }

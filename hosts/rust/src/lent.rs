@@ -1,7 +1,7 @@
 //! The functions of the archive over slices, for hosts that lend all memory themselves. The only unsafe code.
 //!
 //! Each but [`default_settings`] answers 0 or the number of a refusal, whatever the numbers are that it is lent. `include/sporebasket.h` says
-//! what the slots hold.
+//! what the slots hold. Two of them read events, by the archive's two engines: [`read_event`] and [`plain_read_event`], which answer the same.
 //! [`Reader`](crate::Reader), [`Attributes`](crate::events::attributes::Attributes), [`unescape`](crate::escape::unescape), [`read_column`](crate::column::read_column), [`Scan`](crate::feed::Scan) and
 //! [`Feeder`](crate::feed::Feeder) keep the memory and give the numbers their names.
 //!
@@ -24,6 +24,7 @@
 //! ```
 #![allow(unsafe_code)]
 
+use crate::plain::Engine;
 use crate::raw::{self, answer as slot};
 use std::str;
 
@@ -119,18 +120,56 @@ pub fn read_event(document: &[u8], stack: &mut [usize], state: &mut [usize], ans
     }
 }
 
-/// [`read_event`], and the piece of the event as a string, or the number of the refusal.
+/// [`read_event`] by the plain engine, which takes one byte at a time: whatever it is lent, it answers the same and leaves the same in every slot. That is proved (docs/PROMISES.md). It is slower, and is for
+/// the release check.
 ///
-/// The piece of an event is UTF-8, whatever the document, the stack and the state are: that is the theorem `an-event's-piece-is-well-formed` (docs/PROMISES.md). So
-/// it is not checked once more, but with the feature `checked`.
+/// Any call of a run may be made by either.
+///
+/// ```
+/// use sporebasket::lent;
+///
+/// let document = b"<t>06:15</t>";
+/// let (mut state, mut stack) = ([0; lent::STATE_SLOTS], [0; lent::NAME_SLOTS]);
+/// let mut answer = [0; lent::ANSWER_SLOTS];
+/// assert_eq!(lent::new(document, lent::default_settings(), &mut state), 0);
+///
+/// assert_eq!(lent::plain_read_event(document, &mut stack, &mut state, &mut answer), 0);
+/// // a Start (1), piece 0..3, and its name on the stack
+/// assert_eq!((&answer[..5], stack), (&[1, 0, 0, 0, 3][..], [1, 2]));
+/// // on by the other engine: the text (4), piece 3..8
+/// assert_eq!(lent::read_event(document, &mut stack, &mut state, &mut answer), 0);
+/// assert_eq!(answer[..5], [4, 0, 0, 3, 8]);
+/// ```
 #[inline]
-pub(crate) fn read_piece<'a>(
+pub fn plain_read_event(document: &[u8], stack: &mut [usize], state: &mut [usize], answer: &mut [usize]) -> usize {
+    // SAFETY: pointers and counts are those of slices, so no pointer is null; the three that are written to are lent exclusively, so they
+    // overlap neither with each other nor with the document.
+    unsafe {
+        raw::sporebasket_plain_read_event(
+            document.as_ptr(),
+            document.len(),
+            stack.as_mut_ptr(),
+            stack.len(),
+            state.as_mut_ptr(),
+            state.len(),
+            answer.as_mut_ptr(),
+            answer.len(),
+        )
+    }
+}
+
+/// [`read_event`] by an engine, and the piece of the event as a string, or the number of the refusal.
+///
+/// The piece of an event is UTF-8, whatever the document, the stack and the state are: that is the theorem `an-event's-piece-is-well-formed` (docs/PROMISES.md), and the events of the two engines are the
+/// same. So it is not checked once more, but with the feature `checked`.
+#[inline]
+pub(crate) fn read_piece<'a, E: Engine>(
     document: &'a [u8],
     stack: &mut [usize],
     state: &mut [usize; STATE_SLOTS],
     answer: &mut [usize; ANSWER_SLOTS],
 ) -> Result<&'a str, usize> {
-    match read_event(document, stack, state, answer) {
+    match E::read_event(document, stack, state, answer) {
         0 => {
             let piece = document.get(answer[slot::PIECE]..answer[slot::PIECE + 1]);
             as_str(piece.unwrap_or_default())

@@ -37,6 +37,8 @@
 //!
 //! [`mod@feed`] reads a document that comes in chunks, as over a slow line, and gives each event as soon as its bytes are there; [`parser`] has quick-xml's parsers of markup in pieces.
 //!
+//! [`plain`] reads by a second engine, which takes one byte at a time: it answers the same to every call, is slower, and is for the release check.
+//!
 //! [`mod@column`] reads the times of a timetable's column, which may run past midnight:
 //!
 //! ```
@@ -66,6 +68,7 @@ mod layout;
 pub mod lent;
 pub mod name;
 pub mod parser;
+pub mod plain;
 mod raw;
 pub mod reader;
 mod rows;

@@ -29,6 +29,18 @@ extern "C" {
         answer_slots: usize,
     ) -> usize;
 
+    /// Does what [`sporebasket_read_event`] does, by the plain engine.
+    pub fn sporebasket_plain_read_event(
+        document: *const u8,
+        length: usize,
+        stack: *mut usize,
+        stack_slots: usize,
+        state: *mut usize,
+        state_slots: usize,
+        answer: *mut usize,
+        answer_slots: usize,
+    ) -> usize;
+
     /// Writes the open name of this depth into the row: 0, or the refusal's number.
     pub fn sporebasket_open_row(
         stack: *const usize,

@@ -4,9 +4,11 @@ use crate::errors::{Error, Result};
 use crate::events::{BytesText, Event};
 use crate::ext::{Phase, ReaderExt, WayDown};
 use crate::name::QName;
+use crate::plain::{Engine, Main};
 use crate::raw::{answer, ANSWER_SLOTS, MOST_NAMES, STATE_SLOTS};
 use crate::run::Run;
 use std::fmt;
+use std::marker::PhantomData;
 use std::mem;
 use std::ops::Range;
 use std::str;
@@ -18,7 +20,7 @@ pub type Span = Range<u64>;
 
 /// A reader of the events of a document in memory.
 ///
-/// Whatever the bytes are, every call of [`read_event`](Reader::read_event) gives an event or a refusal with a number, nothing panics, and
+/// Whatever the bytes are, every call of [`read_event`](ReaderBy::read_event) gives an event or a refusal with a number, nothing panics, and
 /// [`Eof`](Event::Eof) comes by call number length + 2, if the document is not longer than [`LONGEST`](crate::lent::LONGEST).
 ///
 /// On the heap a reader takes room for open names, 16 bytes for each: for a few at first. Where all of it is taken it is doubled before the next
@@ -51,15 +53,19 @@ pub type Span = Range<u64>;
 /// }
 /// assert!(is_at_end(&Reader::from_str("")));
 /// ```
+pub type Reader<R> = ReaderBy<R, Main>;
+
+/// A reader by one of the archive's two engines: [`Reader`] is that by the main one, [`plain::Reader`](crate::plain::Reader) that by the plain one. They read alike, and these are the methods of both.
 #[derive(Clone)]
-pub struct Reader<R> {
+pub struct ReaderBy<R, E> {
     document: R,
     /// What of the document is yet to be read.
     rest: R,
     run: Run,
+    engine: PhantomData<E>,
 }
 
-impl<R> Reader<R> {
+impl<R, E> ReaderBy<R, E> {
     /// The settings.
     ///
     /// ```
@@ -142,7 +148,7 @@ impl<R> Reader<R> {
     }
 }
 
-impl<'a> Reader<&'a [u8]> {
+impl<'a, E: Engine> ReaderBy<&'a [u8], E> {
     /// A reader over bytes, with the default settings. As many names may be open as [`MOST_NAMES`]; the room for them is taken as they open.
     ///
     /// ```
@@ -154,7 +160,7 @@ impl<'a> Reader<&'a [u8]> {
     /// assert!(matches!(Reader::from_reader(&bytes[..]).read_event(), Err(Error::Encoding(_))));
     /// ```
     pub fn from_reader(reader: &'a [u8]) -> Self {
-        Reader::with_capacity(reader, MOST_NAMES)
+        Self::with_capacity(reader, MOST_NAMES)
     }
 
     /// A reader over a string.
@@ -169,7 +175,7 @@ impl<'a> Reader<&'a [u8]> {
     // The name is quick-xml's; `FromStr` could not borrow the string.
     #[allow(clippy::should_implement_trait)]
     pub fn from_str(s: &'a str) -> Self {
-        Reader::from_reader(s.as_bytes())
+        Self::from_reader(s.as_bytes())
     }
 
     /// The next event, or why there is none. Reading may go on after a refusal; [`Error`] says how.
@@ -188,7 +194,7 @@ impl<'a> Reader<&'a [u8]> {
     #[inline]
     pub fn read_event(&mut self) -> Result<Event<'a>> {
         let done = self.run.is_done();
-        match self.run.read(self.document) {
+        match self.run.read::<E>(self.document) {
             Ok(piece) => {
                 // of a run that is over, what was not read stays so
                 if !done {
@@ -201,7 +207,7 @@ impl<'a> Reader<&'a [u8]> {
     }
 
     /// The next event, with its text in a buffer: the piece is put behind what the buffer holds. A slice needs none, so that
-    /// [`read_event`](Reader::read_event) is as good; this is for code that has one.
+    /// [`read_event`](ReaderBy::read_event) is as good; this is for code that has one.
     ///
     /// ```
     /// use sporebasket::events::Event;
@@ -242,7 +248,7 @@ impl<'a> Reader<&'a [u8]> {
         self.untrimmed(|reader| reader.skip(end, |reader| reader.read_event()))
     }
 
-    /// [`read_to_end`](Reader::read_to_end) by [`read_event_into`](Reader::read_event_into). The buffer is cleared before each event.
+    /// [`read_to_end`](ReaderBy::read_to_end) by [`read_event_into`](ReaderBy::read_event_into). The buffer is cleared before each event.
     ///
     /// ```
     /// use sporebasket::events::Event;
@@ -266,7 +272,7 @@ impl<'a> Reader<&'a [u8]> {
         })
     }
 
-    /// [`read_to_end`](Reader::read_to_end), and what stands between the two tags, as it stands.
+    /// [`read_to_end`](ReaderBy::read_to_end), and what stands between the two tags, as it stands.
     ///
     /// ```
     /// use sporebasket::events::Event;
@@ -343,12 +349,13 @@ fn is_read(number: usize, piece: &[u8]) -> bool {
     }
 }
 
-impl<'a> ReaderExt<'a> for Reader<&'a [u8]> {
+impl<'a, E: Engine> ReaderExt<'a> for ReaderBy<&'a [u8], E> {
     fn with_capacity(document: &'a [u8], names: usize) -> Self {
-        Reader {
+        ReaderBy {
             document,
             rest: document,
             run: Run::new(document, names),
+            engine: PhantomData,
         }
     }
 
@@ -392,7 +399,7 @@ const UNCLOSED_CDATA: usize = 5;
 const UNCLOSED_PI: usize = 6;
 const INVALID_BANG_MARKUP: usize = 8;
 
-impl<R> fmt::Debug for Reader<R> {
+impl<R, E> fmt::Debug for ReaderBy<R, E> {
     fn fmt(&self, f: &mut fmt::Formatter<'_>) -> fmt::Result {
         self.run.show("Reader", f)
     }

@@ -6,6 +6,7 @@ use crate::events::{At, Content, Event};
 use crate::ext::Phase;
 use crate::lent;
 use crate::name::QName;
+use crate::plain::Engine;
 use crate::raw::{answer, state, ANSWER_SLOTS, FILLED_SLOTS, MOST_NAMES, NAME_SLOTS, ROW_SLOTS, STATE_SLOTS};
 use crate::rows::WayDown;
 use std::borrow::Cow;
@@ -62,13 +63,13 @@ impl Run {
         self.state[state::LENGTH] = length;
     }
 
-    /// Reads on: the piece of an event, or the number of a refusal.
+    /// Reads on by an engine: the piece of an event, or the number of a refusal.
     #[inline]
-    pub fn read<'d>(&mut self, document: &'d [u8]) -> Result<&'d str, usize> {
+    pub fn read<'d, E: Engine>(&mut self, document: &'d [u8]) -> Result<&'d str, usize> {
         if self.state[state::DEPTH] == self.pause {
             self.prepare();
         }
-        lent::read_piece(document, &mut self.stack, &mut self.state, &mut self.answer)
+        lent::read_piece::<E>(document, &mut self.stack, &mut self.state, &mut self.answer)
     }
 
     /// The event of the last answer, whose piece this is. The End of an expanded empty element has its name from another piece.
@@ -230,6 +231,7 @@ const UNMATCHED: usize = 11;
 #[cfg(test)]
 mod tests {
     use super::{Phase, Run, FIRST_NAMES, MOST_NAMES, NAME_SLOTS};
+    use crate::plain::Main;
 
     /// Reads a document that opens more names than may be, and sees the room before and after each call. Settings that may have changed make no room.
     fn room_doubles_where_it_is_full(asked: usize, changed: bool) {
@@ -241,7 +243,7 @@ mod tests {
             if changed {
                 run.config_mut();
             }
-            let answer = run.read(document.as_bytes());
+            let answer = run.read::<Main>(document.as_bytes());
             assert_eq!(answer, if depth < names { Ok("<a>") } else { Err(15) });
             let full = depth == room;
             let wanted = if full {

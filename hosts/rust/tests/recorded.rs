@@ -1,12 +1,13 @@
 //! The reader's cases of the repository (`crates/cases/stdout`), run through this package: whole documents by `Reader` and by `lent`, single calls
-//! from any state and contents by `lent`.
+//! from any state and contents by `lent`; all but contents by both engines.
 
 mod common;
 
 use common::{letters, told, PHASES};
 use sporebasket::ext::ReaderExt;
 use sporebasket::lent;
-use sporebasket::reader::{Config, Reader};
+use sporebasket::plain::{Engine, Main, Plain};
+use sporebasket::reader::{Config, ReaderBy};
 use std::fs;
 
 const RECORDED: &str = concat!(env!("CARGO_MANIFEST_DIR"), "/../../crates/cases/stdout");
@@ -67,12 +68,11 @@ fn place(state: &[usize]) -> String {
     format!("{mark}{} {} {}", PHASES[state[0]], state[1], state[2])
 }
 
-#[test]
-fn whole_documents() {
+fn hold_whole_documents<E: Engine>() {
     for (line, mut answers) in cases("run") {
         let words: Vec<&str> = line.splitn(3, ' ').collect();
         let document = unescaped(words[2]);
-        let mut reader = Reader::with_capacity(&document, number(words[1]) / 2);
+        let mut reader = ReaderBy::<_, E>::with_capacity(&document, number(words[1]) / 2);
         common::set(reader.config_mut(), words[0]);
         let mut said = common::run(&mut reader);
         said.extend(common::run(&mut reader));
@@ -83,7 +83,16 @@ fn whole_documents() {
 }
 
 #[test]
-fn whole_documents_with_all_memory_lent() {
+fn whole_documents() {
+    hold_whole_documents::<Main>();
+}
+
+#[test]
+fn whole_documents_by_the_plain_engine() {
+    hold_whole_documents::<Plain>();
+}
+
+fn hold_whole_documents_with_all_memory_lent<E: Engine>() {
     for (line, mut answers) in cases("run") {
         let words: Vec<&str> = line.splitn(3, ' ').collect();
         let document = unescaped(words[2]);
@@ -92,7 +101,7 @@ fn whole_documents_with_all_memory_lent() {
         assert_eq!(lent::new(&document, settings(words[0]), &mut state), 0);
         answers.pop(); // the counts
         for wanted in answers {
-            lent::read_event(&document, &mut stack, &mut state, &mut answer);
+            E::read_event(&document, &mut stack, &mut state, &mut answer);
             let mut said = format!("{} | {}", told(&answer), place(&state));
             for name in stack.chunks(lent::NAME_SLOTS).take(state[2]) {
                 said += &format!(" {}..{}", name[0], name[1]);
@@ -103,7 +112,16 @@ fn whole_documents_with_all_memory_lent() {
 }
 
 #[test]
-fn single_calls() {
+fn whole_documents_with_all_memory_lent() {
+    hold_whole_documents_with_all_memory_lent::<Main>();
+}
+
+#[test]
+fn whole_documents_with_all_memory_lent_by_the_plain_engine() {
+    hold_whole_documents_with_all_memory_lent::<Plain>();
+}
+
+fn hold_single_calls<E: Engine>() {
     for (line, answers) in cases("state") {
         let words: Vec<&str> = line.splitn(8, ' ').collect();
         let document = unescaped(words[7]);
@@ -124,7 +142,7 @@ fn single_calls() {
             }
         }
         let mut answer = [0; lent::ANSWER_SLOTS];
-        let refusal = lent::read_event(&document, &mut stack, &mut state, &mut answer);
+        let refusal = E::read_event(&document, &mut stack, &mut state, &mut answer);
         assert_eq!(refusal, answer[1], "state {line}");
         let mut said = format!("{} | {} {}", told(&answer), letters(state[4]), place(&state));
         said += &format!(" {} |", state[3]);
@@ -133,6 +151,16 @@ fn single_calls() {
         }
         assert_eq!([said], answers[..], "state {line}");
     }
+}
+
+#[test]
+fn single_calls() {
+    hold_single_calls::<Main>();
+}
+
+#[test]
+fn single_calls_by_the_plain_engine() {
+    hold_single_calls::<Plain>();
 }
 
 #[test]

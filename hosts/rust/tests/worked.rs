@@ -1,8 +1,10 @@
-//! The worked examples of the reader's definition, P1 to P16, and the cases that it wants run: every answer, and the state after it.
+//! The worked examples of the reader's definition, P1 to P16, and the cases that it wants run: every answer, and the state after it, by both engines.
 
 mod common;
 
 use sporebasket::ext::ReaderExt;
+use sporebasket::plain::{Engine, Main, Plain};
+use sporebasket::reader::ReaderBy;
 use sporebasket::Reader;
 
 struct Row {
@@ -174,16 +176,25 @@ const ROWS: &[Row] = &[
     },
 ];
 
-#[test]
-fn worked_examples() {
+fn hold<E: Engine>() {
     for row in ROWS {
-        let mut reader = Reader::with_capacity(row.document, row.names);
+        let mut reader = ReaderBy::<_, E>::with_capacity(row.document, row.names);
         common::set(reader.config_mut(), row.settings);
         assert_eq!(common::run(&mut reader), row.answers, "{}", row.name);
         // end of file stays
         let last = row.answers[row.answers.len() - 1];
         assert_eq!(common::run(&mut reader), [last], "{}", row.name);
     }
+}
+
+#[test]
+fn worked_examples() {
+    hold::<Main>();
+}
+
+#[test]
+fn worked_examples_by_the_plain_engine() {
+    hold::<Plain>();
 }
 
 #[test]

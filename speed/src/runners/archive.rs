@@ -30,6 +30,19 @@ impl Functions for Linked {
     }
 }
 
+/// Those of the archive that is linked, by the plain engine.
+pub struct Plain;
+
+impl Functions for Plain {
+    fn make(&self, document: &[u8], settings: usize, state: &mut [usize]) -> usize {
+        lent::new(document, settings, state)
+    }
+
+    fn read(&self, document: &[u8], stack: &mut [usize], state: &mut [usize], answer: &mut [usize]) -> usize {
+        lent::plain_read_event(document, stack, state, answer)
+    }
+}
+
 pub struct Archive<F> {
     name: String,
     functions: F,

@@ -1,9 +1,10 @@
-//! The lines that the examples `events` and `chunks` print of a document's answers, and what their command lines ask for.
+//! The lines that the examples `events`, `chunks` and `release` print of a document's answers, and what their command lines ask for. Not all want all of it.
+#![allow(dead_code)]
 
-use crate::words::word;
+use crate::words::{word, WORDS};
 use sporebasket::events::Event;
 use sporebasket::ext::{ErrorExt, EventExt, WayDown};
-use sporebasket::lent::{self, ATTRIBUTE_SLOTS, UNESCAPE_SLOTS};
+use sporebasket::lent::{self, ATTRIBUTE_SLOTS, ROW_SLOTS, UNESCAPE_SLOTS};
 use sporebasket::Error;
 use std::ffi::OsString;
 use std::io::{self, Write};
@@ -56,6 +57,18 @@ impl Told {
         }
     }
 
+    /// The same by the slots of an event's answer.
+    pub fn by_slots(answer: &[usize]) -> Self {
+        let said = WORDS[answer[0]];
+        Told {
+            said,
+            content: (said != "eof").then_some(answer[5]..answer[6]),
+            name: answer[7],
+            is_tag: matches!(said, "start" | "empty"),
+            is_reference: said == "ref",
+        }
+    }
+
     pub fn is_end(&self) -> bool {
         self.content.is_none()
     }
@@ -79,16 +92,22 @@ impl Told {
 
 /// A refusal has its number and its place.
 pub fn refused(error: &Error, place: u64, out: &mut impl Write) -> io::Result<()> {
-    let number = error.number().unwrap_or_default();
+    refusal(error.number().unwrap_or_default().into(), place as usize, out)
+}
+
+/// The same by its numbers.
+pub fn refusal(number: usize, place: usize, out: &mut impl Write) -> io::Result<()> {
     writeln!(out, "refused {number} {place}")
 }
 
-/// The open names, the outermost first, have a line each: where the name begins, where it ends, and its depth.
-pub fn rows(way: WayDown, out: &mut impl Write) -> io::Result<()> {
-    for row in way {
-        writeln!(out, "row {} {} {}", row.span.start, row.span.end, row.depth)?;
-    }
-    Ok(())
+/// The open names, the outermost first, have a line each.
+pub fn rows(mut way: WayDown, out: &mut impl Write) -> io::Result<()> {
+    way.try_for_each(|row| self::row([row.span.start, row.span.end, row.depth], out))
+}
+
+/// An open name has where it begins, where it ends, and its depth.
+pub fn row([start, end, depth]: [usize; ROW_SLOTS], out: &mut impl Write) -> io::Result<()> {
+    writeln!(out, "row {start} {end} {depth}")
 }
 
 /// How many bytes of its content are an event's name.
@@ -111,7 +130,7 @@ fn attributes(document: &[u8], content: Range<usize>, name: usize, out: &mut imp
         let number = lent::attribute(document, content.start, content.end, name, at, &mut answer);
         let [found, name_from, name_to, value_from, value_to, next, place, ..] = answer;
         if number != 0 {
-            return writeln!(out, "refused {number} {place}");
+            return refusal(number, place, out);
         }
         if found == 0 {
             return Ok(());
@@ -132,6 +151,6 @@ fn character(document: &[u8], piece: Range<usize>, content: Range<usize>, out: &
             }
             writeln!(out)
         }
-        number => writeln!(out, "refused {number} {}", piece.start),
+        number => refusal(number, piece.start, out),
     }
 }

@@ -1,6 +1,12 @@
-//! The words by which the examples beside it, and the tests, name events.
+//! The words by which the examples beside it, and the tests, name events. Not all want all of them.
+#![allow(dead_code)]
 
 use sporebasket::events::Event;
+
+/// The words of the kinds, by their numbers; 0 is a refusal.
+pub const WORDS: [&str; 11] = [
+    "refused", "start", "end", "empty", "text", "ref", "comment", "cdata", "decl", "pi", "eof",
+];
 
 pub fn word(event: &Event) -> &'static str {
     match event {

@@ -8,14 +8,13 @@ mod words;
 use sporebasket::events::Event;
 use sporebasket::ext::{ErrorExt, EventExt, Phase, ReaderExt};
 use sporebasket::lent;
-use sporebasket::reader::{Config, Reader};
+use sporebasket::plain::Engine;
+use sporebasket::reader::{Config, ReaderBy};
 use std::ops::Range;
 pub use words::word;
+use words::WORDS;
 
 pub const PHASES: [&str; 6] = ["init", "text", "markup", "ref", "empty", "done"];
-const KINDS: [&str; 10] = [
-    "start", "end", "empty", "text", "ref", "comment", "cdata", "decl", "pi", "eof",
-];
 
 /// How many bytes of its content are an event's name.
 fn name_len(event: &Event) -> usize {
@@ -33,7 +32,7 @@ fn spanned(range: Range<usize>) -> String {
 }
 
 /// The next answer.
-pub fn answer(reader: &mut Reader<&[u8]>) -> String {
+pub fn answer<E: Engine>(reader: &mut ReaderBy<&[u8], E>) -> String {
     match reader.read_event() {
         Ok(event) => {
             let piece = reader.piece();
@@ -68,7 +67,7 @@ pub fn answer(reader: &mut Reader<&[u8]>) -> String {
 /// An answer's numbers in words.
 pub fn told(answer: &[usize]) -> String {
     if answer[0] != 0 {
-        let word = KINDS[answer[0] - 1];
+        let word = WORDS[answer[0]];
         return format!(
             "{word} {} {} {} {} {}",
             answer[3], answer[4], answer[5], answer[6], answer[7]
@@ -91,7 +90,7 @@ pub fn place(document: &[u8], part: &[u8]) -> Range<usize> {
 }
 
 /// The state: the phase, the position, the depth and the open names.
-pub fn state(reader: &Reader<&[u8]>) -> String {
+pub fn state<E: Engine>(reader: &ReaderBy<&[u8], E>) -> String {
     let phase = match reader.phase() {
         Phase::Init => "init",
         Phase::InsideText => "text",
@@ -109,7 +108,7 @@ pub fn state(reader: &Reader<&[u8]>) -> String {
 }
 
 /// The answers up to end of file, each with the state after it.
-pub fn run(reader: &mut Reader<&[u8]>) -> Vec<String> {
+pub fn run<E: Engine>(reader: &mut ReaderBy<&[u8], E>) -> Vec<String> {
     let mut said = Vec::new();
     for _ in 0..reader.document().len() + 2 {
         let answer = answer(reader);
