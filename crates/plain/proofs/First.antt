@@ -13,11 +13,12 @@ use Rattle.ground.specs.Choose.{pick}
 use Rattle.ground.specs.Part.{part}
 use Rattle.ground.specs.Least.{Least}
 use Rattle.ground.proofs.Choices.{pick-cases}
-use Rattle.ground.proofs.Lists.{part-length, part-byte}
+use Rattle.ground.proofs.Lists.{part-length}
 use Rattle.ground.proofs.First.{least-one}
 use Rattle.white.specs.White.{isWhite, nameLen, EndsAt}
 use Rattle.white.proofs.Words.{name-len-least}
 use Rattle.plain.specs.Known.{reach}
+use Rattle.plain.proofs.Bytes.{part-same}
 
 -- v is the first place from `from` on with the property, of those before i; i where there is none
 pub record First (P : ℕ → Type 0) (from i v : ℕ) : Type 0 where
@@ -73,6 +74,14 @@ first-more P from i v false f y n = go (eqb v i) refl
     go true e = past P from i v f (eqb-true v i e) (n refl)
     go false e = stays P from i v f (λ g. absurd (eqb-false v i e g))
 
+-- it comes late, where nothing before a has the property
+pub first-late : (P : ℕ → Type 0) (from i v a : ℕ) → First P from i v → a ≤ i → ((k : ℕ) → from ≤ k → k < a → P k → ⊥) → a ≤ v
+first-late P from i v a f h n =
+    elim (decLt v a) [
+      | yes l ↦ absurd (n v (f .low) l (f .here (omega arith)))
+      | no l ↦ omega arith
+    ]
+
 abbrev pub White : List ℕ → ℕ → Type 0
 White doc k = isWhite (getD doc k 0) ≡ true
 
@@ -84,16 +93,13 @@ ends-first doc from i v a to e f l m w p q r s =
     record {
       has =
           elim (decLt e to) [
-            | yes u ↦ inr (omega arith, byte (e - a) e (omega arith) (omega arith) ∙ s u)
+            | yes u ↦ inr (omega arith, ap isWhite (part-same doc a to (e - a) e w (omega arith) (omega arith)) ∙ s u)
             | no u ↦ inl (omega arith)
           ];
       before = λ k h.
           ⊎-elim (λ g. omega arith)
-          (λ g. f .before (a + k) (omega arith) (omega arith) (sym (byte k (a + k) (omega arith) refl) ∙ g .1));
+          (λ g. f .before (a + k) (omega arith) (omega arith) (sym (ap isWhite (part-same doc a to k (a + k) w (omega arith) refl)) ∙ g .1));
     }
-  where
-    byte : (k j : ℕ) → k < to - a → j ≡ a + k → isWhite (getD (part doc a to) k 0) ≡ isWhite (getD doc j 0)
-    byte k j h g = ap isWhite (part-byte doc a to k w h ∙ ap (λ (n : ℕ). getD doc n 0) (sym g))
 
 -- the name length of a content that begins at a, where no white space stands between `from` and a
 pub name-is : (doc : List ℕ) (from i v a to : ℕ) → First (White doc) from i v → a ≤ v → from ≤ a → a ≤ to → to ≤ i → i ≤ length doc

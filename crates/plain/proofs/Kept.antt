@@ -1,6 +1,6 @@
 -- The place behind the last byte that is not white space: how a byte more moves it, and that what is kept of the bytes ends there. Assumes nothing.
 use Prim.Native.Nat.{ℕ, _+_, _-_, _≤_, _<_}
-use mathlib.Core.Path.{_≡_, sym, ap, _∙_}
+use mathlib.Core.Path.{_≡_, refl, ap, _∙_}
 use mathlib.Core.Bool.{true, false}
 use mathlib.Core.List.{List}
 use native.Mathlib.Omega.{arith}
@@ -9,10 +9,11 @@ use lib.ListN.{length, getD}
 use Rattle.ground.specs.Choose.{pick}
 use Rattle.ground.specs.Part.{part}
 use Rattle.ground.proofs.Choices.{pick-cases, clash}
-use Rattle.ground.proofs.Lists.{part-length, part-byte}
+use Rattle.ground.proofs.Lists.{part-length}
 use Rattle.ground.proofs.First.{least-one}
 use Rattle.white.specs.White.{isWhite, kept, WhiteFrom}
 use Rattle.white.proofs.Words.{kept-least}
+use Rattle.plain.proofs.Bytes.{byte-same, part-same}
 
 -- from v on up to i only white space stands, and before v a byte that is none, or `from`
 pub record Kept (doc : List ℕ) (from i v : ℕ) : Type 0 where
@@ -25,9 +26,6 @@ pub kept-start : (doc : List ℕ) (from : ℕ) → Kept doc from from from
 kept-start doc from =
     record { low = omega arith; high = omega arith; rest = λ k h l. absurd (omega arith); last = λ h. absurd (omega arith) }
 
-white-same : (doc : List ℕ) (j k : ℕ) → j ≡ k → isWhite (getD doc j 0) ≡ isWhite (getD doc k 0)
-white-same doc j k e = ap (λ (n : ℕ). isWhite (getD doc n 0)) e
-
 pub kept-more : (doc : List ℕ) (from i v : ℕ) → Kept doc from i v → Kept doc from (i + 1) (pick (isWhite (getD doc i 0)) v (i + 1))
 kept-more doc from i v h =
     pick-cases (Kept doc from (i + 1)) (isWhite (getD doc i 0)) v (i + 1)
@@ -37,7 +35,7 @@ kept-more doc from i v h =
       rest = λ k l u.
           elim (decLt k i) [
             | yes m ↦ h .rest k l m
-            | no m ↦ white-same doc k i (omega arith) ∙ e
+            | no m ↦ ap isWhite (byte-same doc k i (omega arith)) ∙ e
           ];
       last = h .last;
     })
@@ -45,19 +43,16 @@ kept-more doc from i v h =
       low = omega arith;
       high = omega arith;
       rest = λ k l u. absurd (omega arith);
-      last = λ l. white-same doc (i + 1 - 1) i (omega arith) ∙ e;
+      last = λ l. ap isWhite (byte-same doc (i + 1 - 1) i (omega arith)) ∙ e;
     })
 
 pub kept-is : (doc : List ℕ) (from i v a : ℕ) → Kept doc from i v → from ≤ a → a ≤ v → i ≤ length doc → a + kept (part doc a i) ≡ v
 kept-is doc from i v a h l m w =
     let long : length (part doc a i) ≡ i - a = part-length doc a i (omega arith) w in
     let e = least-one (WhiteFrom (part doc a i)) (kept (part doc a i)) (v - a) (kept-least (part doc a i)) (record {
-      has = λ k g u. byte k (a + k) (omega arith) (omega arith) ∙ h .rest (a + k) (omega arith) (omega arith);
+      has = λ k g u. ap isWhite (part-same doc a i k (a + k) w (omega arith) refl) ∙ h .rest (a + k) (omega arith) (omega arith);
       before = λ k g f.
           clash (isWhite (getD (part doc a i) (v - 1 - a) 0)) (f (v - 1 - a) (omega arith) (omega arith))
-          (byte (v - 1 - a) (v - 1) (omega arith) (omega arith) ∙ h .last (omega arith));
+          (ap isWhite (part-same doc a i (v - 1 - a) (v - 1) w (omega arith) (omega arith)) ∙ h .last (omega arith));
     }) in
     omega arith
-  where
-    byte : (k j : ℕ) → k < i - a → j ≡ a + k → isWhite (getD (part doc a i) k 0) ≡ isWhite (getD doc j 0)
-    byte k j u g = ap isWhite (part-byte doc a i k w u ∙ ap (λ (n : ℕ). getD doc n 0) (sym g))

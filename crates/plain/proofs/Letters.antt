@@ -1,6 +1,6 @@
 -- What the bytes do to the character at hand comes to what the check says of them, wherever it stands. Assumes nothing.
 use Prim.Native.Nat.{ℕ, zero, suc, _+_, _-_, _≤_, _<_}
-use mathlib.Core.Path.{_≡_, refl, sym, ap, _∙_}
+use mathlib.Core.Path.{_≡_, refl, sym, ap, _∙_, subst}
 use mathlib.Core.List.{List, [], _∷_}
 use mathlib.Core.Bool.{Bool, true, false, _&&_}
 use native.Mathlib.Numerals.{sub-one}
@@ -18,6 +18,7 @@ use Rattle.utf8.specs.declared.Utf8.the-variants.{WellFormed, IllFormed}
 use Rattle.utf8.proofs.Table.{in-range, left, rest, One, left-one}
 use Rattle.plain.specs.declared.known.Letters.{Letters}
 use Rattle.plain.specs.Letters.{owing, ill, lead, letter, owes, onward}
+use Rattle.plain.proofs.Flags.{and-none}
 
 -- ---- a byte that no byte is
 
@@ -29,55 +30,70 @@ unfolding inRanges
 ill-on at i [] = refl
 ill-on at i (b ∷ bs) = rw (no-byte b)
 
+-- ---- a byte of ASCII is never owed
+
+abbrev Past : Letters → Type 0
+Past l = (l .owed ≡ 0 → ⊥) → (b : ℕ) → b < 0x80 → (leb (l .low) b && leb b (l .top)) ≡ false
+
+high-past : (at owed low top : ℕ) → leb 0x80 low ≡ true → Past (owing at owed low top)
+high-past at owed low top h n b u = rw (lt-leb low b (omega (arith, leb-true 0x80 low h)))
+
+ill-past : (at : ℕ) → Past (ill at)
+ill-past at n zero u = refl
+ill-past at n (suc b) u = and-none (leb 1 (suc b)) (leb (suc b) 0) (lt-leb (suc b) 0 (omega arith))
+
 -- ---- the first byte of a character
 
-module _ (at b : ℕ) (bs : List ℕ) where
-  -- what the check does there
-  abbrev starts : Utf8
-  starts = atChar (charLen (b ∷ bs)) at (λ k. checkFrom k (at + 1) bs)
-
-  -- what it comes to where that is known of the character
-  abbrev Starts : Letters → Type 0
-  Starts l = starts ≡ onward l (at + 1) bs
+module _ (at b : ℕ) where
+  -- the check comes to what is known of the character, whatever bytes follow; and no byte of ASCII is owed
+  record Led (l : Letters) : Type 0 where
+    comes : (bs : List ℕ) → atChar (charLen (b ∷ bs)) at (λ k. checkFrom k (at + 1) bs) ≡ onward l (at + 1) bs
+    past : Past l
 
   -- a row whose first range is lo .. hi
-  row-length : (lo hi n : ℕ) (other : List Range) → One rows lo (suc hi) → rest (left rows lo (suc hi)) ≡ other → length other ≡ n
+  row-length : (bs : List ℕ) (lo hi n : ℕ) (other : List Range) → One rows lo (suc hi) → rest (left rows lo (suc hi)) ≡ other → length other ≡ n
       → inRange (lo, hi) b ≡ true → charLen (b ∷ bs) ≡ pick (inRanges other bs) (suc n) 0
-  row-length lo hi n other one f g e =
+  row-length bs lo hi n other one f g e =
       let q = both (leb lo b) (leb b hi) e in
       let under = leb-true b hi (q .1) in
       left-one lo (suc hi) b bs (leb-true lo b (q .0)) (omega arith) rows one
       ∙ ap (λ (r : List Range). pick (inRanges r bs) (suc (length r)) 0) f
       ∙ ap (λ (k : ℕ). pick (inRanges other bs) (suc k) 0) g
 
-  row : (lo hi n low top : ℕ) → One rows lo (suc hi) → rest (left rows lo (suc hi)) ≡ owes n low top → length (owes n low top) ≡ n
-      → inRange (lo, hi) b ≡ true → Starts (owing at n low top)
-  row lo hi n low top one f g e =
-      ap (λ (k : ℕ). atChar k at (λ k. checkFrom k (at + 1) bs)) (row-length lo hi n (owes n low top) one f g e) ∙ by (inRanges (owes n low top) bs)
+  row : (lo hi n low top : ℕ) → One rows lo (suc hi) → rest (left rows lo (suc hi)) ≡ owes n low top → length (owes n low top) ≡ n → leb 0x80 low ≡ true
+      → inRange (lo, hi) b ≡ true → Led (owing at n low top)
+  row lo hi n low top one f g h e =
+      record {
+        comes = λ bs.
+            ap (λ (k : ℕ). atChar k at (λ k. checkFrom k (at + 1) bs)) (row-length bs lo hi n (owes n low top) one f g e)
+            ∙ by bs (inRanges (owes n low top) bs);
+        past = high-past at n low top h;
+      }
     where
-      by : (x : Bool) → atChar (pick x (suc n) 0) at (λ k. checkFrom k (at + 1) bs) ≡ pick x (checkFrom n (at + 1) bs) (IllFormed at)
-      by true = refl
-      by false = refl
+      by : (bs : List ℕ) (x : Bool) → atChar (pick x (suc n) 0) at (λ k. checkFrom k (at + 1) bs) ≡ pick x (checkFrom n (at + 1) bs) (IllFormed at)
+      by bs true = refl
+      by bs false = refl
 
   -- no row
   no-row : inRange (0x00, 0x7F) b ≡ false → inRange (0xC2, 0xDF) b ≡ false → inRange (0xE0, 0xE0) b ≡ false → inRange (0xE1, 0xEC) b ≡ false
       → inRange (0xED, 0xED) b ≡ false → inRange (0xEE, 0xEF) b ≡ false → inRange (0xF0, 0xF0) b ≡ false → inRange (0xF1, 0xF3) b ≡ false
-      → inRange (0xF4, 0xF4) b ≡ false → Starts (ill at)
+      → inRange (0xF4, 0xF4) b ≡ false → Led (ill at)
   unfolding rowLen inRanges
-  no-row e₁ e₂ e₃ e₄ e₅ e₆ e₇ e₈ e₉ = rw (e₁, e₂, e₃, e₄, e₅, e₆, e₇, e₈, e₉) (sym (ill-on at (at + 1) bs))
+  no-row e₁ e₂ e₃ e₄ e₅ e₆ e₇ e₈ e₉ =
+      record { comes = λ bs. rw (e₁, e₂, e₃, e₄, e₅, e₆, e₇, e₈, e₉) (sym (ill-on at (at + 1) bs)); past = ill-past at }
 
-  lead-more : Starts (lead at b)
+  led : Led (lead at b)
   unfolding lead
-  lead-more =
-      pick-cases Starts (inRange (0x00, 0x7F) b) _ _ (row 0x00 0x7F 0 0x80 0xBF refl refl refl)
-      (λ e₁. pick-cases Starts (inRange (0xC2, 0xDF) b) _ _ (row 0xC2 0xDF 1 0x80 0xBF refl refl refl)
-      (λ e₂. pick-cases Starts (inRange (0xE0, 0xE0) b) _ _ (row 0xE0 0xE0 2 0xA0 0xBF refl refl refl)
-      (λ e₃. pick-cases Starts (inRange (0xE1, 0xEC) b) _ _ (row 0xE1 0xEC 2 0x80 0xBF refl refl refl)
-      (λ e₄. pick-cases Starts (inRange (0xED, 0xED) b) _ _ (row 0xED 0xED 2 0x80 0x9F refl refl refl)
-      (λ e₅. pick-cases Starts (inRange (0xEE, 0xEF) b) _ _ (row 0xEE 0xEF 2 0x80 0xBF refl refl refl)
-      (λ e₆. pick-cases Starts (inRange (0xF0, 0xF0) b) _ _ (row 0xF0 0xF0 3 0x90 0xBF refl refl refl)
-      (λ e₇. pick-cases Starts (inRange (0xF1, 0xF3) b) _ _ (row 0xF1 0xF3 3 0x80 0xBF refl refl refl)
-      (λ e₈. pick-cases Starts (inRange (0xF4, 0xF4) b) _ _ (row 0xF4 0xF4 3 0x80 0x8F refl refl refl)
+  led =
+      pick-cases Led (inRange (0x00, 0x7F) b) _ _ (row 0x00 0x7F 0 0x80 0xBF refl refl refl refl)
+      (λ e₁. pick-cases Led (inRange (0xC2, 0xDF) b) _ _ (row 0xC2 0xDF 1 0x80 0xBF refl refl refl refl)
+      (λ e₂. pick-cases Led (inRange (0xE0, 0xE0) b) _ _ (row 0xE0 0xE0 2 0xA0 0xBF refl refl refl refl)
+      (λ e₃. pick-cases Led (inRange (0xE1, 0xEC) b) _ _ (row 0xE1 0xEC 2 0x80 0xBF refl refl refl refl)
+      (λ e₄. pick-cases Led (inRange (0xED, 0xED) b) _ _ (row 0xED 0xED 2 0x80 0x9F refl refl refl refl)
+      (λ e₅. pick-cases Led (inRange (0xEE, 0xEF) b) _ _ (row 0xEE 0xEF 2 0x80 0xBF refl refl refl refl)
+      (λ e₆. pick-cases Led (inRange (0xF0, 0xF0) b) _ _ (row 0xF0 0xF0 3 0x90 0xBF refl refl refl refl)
+      (λ e₇. pick-cases Led (inRange (0xF1, 0xF3) b) _ _ (row 0xF1 0xF3 3 0x80 0xBF refl refl refl refl)
+      (λ e₈. pick-cases Led (inRange (0xF4, 0xF4) b) _ _ (row 0xF4 0xF4 3 0x80 0x8F refl refl refl refl)
       (λ e₉. no-row e₁ e₂ e₃ e₄ e₅ e₆ e₇ e₈ e₉)))))))))
 
 -- ---- any byte
@@ -97,67 +113,30 @@ module _ (at i b : ℕ) (bs : List ℕ) where
 
   by-owed : (k low top : ℕ) → onward (owing at k low top) i (b ∷ bs) ≡ onward (letter (owing at k low top) i b) (i + 1) bs
   unfolding letter inRanges checkFrom
-  by-owed zero low top = lead-more i b bs
+  by-owed zero low top = led i b .comes bs
   by-owed (suc k) low top = rw (ne-eqb (suc k) 0 (λ e. omega arith)) (by-range k (leb low b) (leb b top))
 
 -- a byte more: what the check comes to stays the same
-pub letters-more : (l : Letters) (i b : ℕ) (bs : List ℕ) → onward l i (b ∷ bs) ≡ onward (letter l i b) (i + 1) bs
+letters-more : (l : Letters) (i b : ℕ) (bs : List ℕ) → onward l i (b ∷ bs) ≡ onward (letter l i b) (i + 1) bs
 letters-more l i b bs = by-owed (l .at) i b bs (l .owed) (l .low) (l .top)
-
--- ---- no byte more
-
-module _ (at i low top : ℕ) where
-  none-well : (k : ℕ) → k ≡ 0 → onward (owing at k low top) i [] ≡ WellFormed
-  unfolding inRanges checkFrom
-  none-well zero e = refl
-  none-well (suc k) e = absurd (omega arith)
-
-  none-ill : (k : ℕ) → (k ≡ 0 → ⊥) → onward (owing at k low top) i [] ≡ IllFormed at
-  unfolding inRanges
-  none-ill zero n = absurd (n refl)
-  none-ill (suc k) n = refl
-
--- where no more bytes come
-pub letters-well : (l : Letters) (i : ℕ) → l .owed ≡ 0 → onward l i [] ≡ WellFormed
-letters-well l i e = none-well (l .at) i (l .low) (l .top) (l .owed) e
-
-pub letters-ill : (l : Letters) (i : ℕ) → (l .owed ≡ 0 → ⊥) → onward l i [] ≡ IllFormed (l .at)
-letters-ill l i n = none-ill (l .at) i (l .low) (l .top) (l .owed) n
-
--- ---- a byte of ASCII is never owed
-
-abbrev Past : Letters → Type 0
-Past l = (l .owed ≡ 0 → ⊥) → (b : ℕ) → b < 0x80 → (leb (l .low) b && leb b (l .top)) ≡ false
-
-high-past : (at owed low top : ℕ) → 0x80 ≤ low → Past (owing at owed low top)
-high-past at owed low top h n b u = rw (lt-leb low b (omega arith))
-
-ill-past : (at : ℕ) → Past (ill at)
-ill-past at n zero u = refl
-ill-past at n (suc b) u = go (leb 1 (suc b)) (leb (suc b) 0) (lt-leb (suc b) 0 (omega arith))
-  where
-    go : (x y : Bool) → y ≡ false → (x && y) ≡ false
-    go true y e = e
-    go false y e = refl
-
-lead-past : (at b : ℕ) → Past (lead at b)
-unfolding lead
-lead-past at b =
-    pick-cases Past (inRange (0x00, 0x7F) b) _ _ (λ e. high-past at 0 0x80 0xBF (omega arith))
-    (λ e. pick-cases Past (inRange (0xC2, 0xDF) b) _ _ (λ e. high-past at 1 0x80 0xBF (omega arith))
-    (λ e. pick-cases Past (inRange (0xE0, 0xE0) b) _ _ (λ e. high-past at 2 0xA0 0xBF (omega arith))
-    (λ e. pick-cases Past (inRange (0xE1, 0xEC) b) _ _ (λ e. high-past at 2 0x80 0xBF (omega arith))
-    (λ e. pick-cases Past (inRange (0xED, 0xED) b) _ _ (λ e. high-past at 2 0x80 0x9F (omega arith))
-    (λ e. pick-cases Past (inRange (0xEE, 0xEF) b) _ _ (λ e. high-past at 2 0x80 0xBF (omega arith))
-    (λ e. pick-cases Past (inRange (0xF0, 0xF0) b) _ _ (λ e. high-past at 3 0x90 0xBF (omega arith))
-    (λ e. pick-cases Past (inRange (0xF1, 0xF3) b) _ _ (λ e. high-past at 3 0x80 0xBF (omega arith))
-    (λ e. pick-cases Past (inRange (0xF4, 0xF4) b) _ _ (λ e. high-past at 3 0x80 0x8F (omega arith)) (λ e. ill-past at)))))))))
 
 letter-past : (l : Letters) (i b : ℕ) → Past (letter l i b)
 unfolding letter
 letter-past l i b =
-    pick-cases Past (eqb (l .owed) 0) _ _ (λ e. lead-past i b)
-    (λ e. pick-cases Past (leb (l .low) b && leb b (l .top)) _ _ (λ e. high-past (l .at) (l .owed - 1) 0x80 0xBF (omega arith)) (λ e. ill-past (l .at)))
+    pick-cases Past (eqb (l .owed) 0) _ _ (λ e. led i b .past)
+    (λ e. pick-cases Past (leb (l .low) b && leb b (l .top)) _ _ (λ e. high-past (l .at) (l .owed - 1) 0x80 0xBF refl) (λ e. ill-past (l .at)))
+
+-- ---- no byte more
+
+-- what the check says then: all is well where no byte is owed, and else the character at hand is ill-formed
+pub record Said (l : Letters) (u : Utf8) : Type 0 where
+  pub well : l .owed ≡ 0 → u ≡ WellFormed
+  pub ill-from : (l .owed ≡ 0 → ⊥) → u ≡ IllFormed (l .at)
+
+none-said : (at i low top k : ℕ) → Said (owing at k low top) (onward (owing at k low top) i [])
+unfolding inRanges checkFrom
+none-said at i low top zero = record { well = λ e. refl; ill-from = λ n. absurd (n refl) }
+none-said at i low top (suc k) = record { well = λ e. absurd (omega arith); ill-from = λ n. refl }
 
 -- ---- a part of a document
 
@@ -165,7 +144,7 @@ letter-past l i b =
 pub record Spelt (doc : List ℕ) (from i : ℕ) (l : Letters) : Type 0 where
   pub on : (to : ℕ) → i ≤ to → to ≤ length doc → check from (part doc from to) ≡ onward l i (part doc i to)
   -- and a byte of ASCII is not one that is owed
-  pub bounds : (l .owed ≡ 0 → ⊥) → (b : ℕ) → b < 0x80 → (leb (l .low) b && leb b (l .top)) ≡ false
+  pub bounds : Past l
 
 pub spelt-start : (doc : List ℕ) (from : ℕ) → Spelt doc from from (owing from 0 0x80 0xBF)
 unfolding inRanges
@@ -186,13 +165,9 @@ part-none doc i h =
     let e : i - i ≡ 0 = omega arith in
     part-in doc i i (omega arith) h ∙ ap (λ (n : ℕ). take n (drop i doc)) e
 
-pub spelt-well : (doc : List ℕ) (from i : ℕ) (l : Letters) → i ≤ length doc → Spelt doc from i l → l .owed ≡ 0
-    → check from (part doc from i) ≡ WellFormed
-spelt-well doc from i l h s e = s .on i (omega arith) h ∙ ap (onward l i) (part-none doc i h) ∙ letters-well l i e
-
-pub spelt-ill : (doc : List ℕ) (from i : ℕ) (l : Letters) → i ≤ length doc → Spelt doc from i l → (l .owed ≡ 0 → ⊥)
-    → check from (part doc from i) ≡ IllFormed (l .at)
-spelt-ill doc from i l h s n = s .on i (omega arith) h ∙ ap (onward l i) (part-none doc i h) ∙ letters-ill l i n
+pub spelt-said : (doc : List ℕ) (from i : ℕ) (l : Letters) → i ≤ length doc → Spelt doc from i l → Said l (check from (part doc from i))
+spelt-said doc from i l h s =
+    subst (Said l) (sym (s .on i (omega arith) h ∙ ap (onward l i) (part-none doc i h))) (none-said (l .at) i (l .low) (l .top) (l .owed))
 
 -- ---- one byte of ASCII more (the `>` with which a piece ends): it changes neither answer
 
@@ -204,16 +179,14 @@ letter-ill : (l : Letters) (i b : ℕ) → (l .owed ≡ 0 → ⊥) → (leb (l .
 unfolding letter
 letter-ill l i b n e = rw (ne-eqb (l .owed) 0 n, e)
 
-pub spelt-well-more : (doc : List ℕ) (from i : ℕ) (l : Letters) → i < length doc → getD doc i 0 < 0x80 → Spelt doc from i l → l .owed ≡ 0
-    → check from (part doc from (i + 1)) ≡ WellFormed
-spelt-well-more doc from i l h u s e =
-    let f = letter-well l i (getD doc i 0) u e in
-    spelt-well doc from (i + 1) (letter l i (getD doc i 0)) (omega arith) (spelt-more doc from i l h s) (ap (λ (m : Letters). m .owed) f)
-
-pub spelt-ill-more : (doc : List ℕ) (from i : ℕ) (l : Letters) → i < length doc → getD doc i 0 < 0x80 → Spelt doc from i l → (l .owed ≡ 0 → ⊥)
-    → check from (part doc from (i + 1)) ≡ IllFormed (l .at)
-spelt-ill-more doc from i l h u s n =
-    let f = letter-ill l i (getD doc i 0) n (s .bounds n (getD doc i 0) u) in
-    let g = ap (λ (m : Letters). m .owed) f in
-    spelt-ill doc from (i + 1) (letter l i (getD doc i 0)) (omega arith) (spelt-more doc from i l h s) (λ e. omega arith)
-    ∙ ap (λ (m : Letters). IllFormed (m .at)) f
+pub spelt-said-more : (doc : List ℕ) (from i : ℕ) (l : Letters) → i < length doc → getD doc i 0 < 0x80 → Spelt doc from i l → Said l (check from (part doc from (i + 1)))
+spelt-said-more doc from i l h u s =
+    let b = getD doc i 0 in
+    let said = spelt-said doc from (i + 1) (letter l i b) (omega arith) (spelt-more doc from i l h s) in
+    record {
+      well = λ e. said .well (ap (λ (m : Letters). m .owed) (letter-well l i b u e));
+      ill-from = λ n.
+          let f = letter-ill l i b n (s .bounds n b u) in
+          let g = ap (λ (m : Letters). m .owed) f in
+          said .ill-from (λ e. omega arith) ∙ ap (λ (m : Letters). IllFormed (m .at)) f;
+    }

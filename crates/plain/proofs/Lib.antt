@@ -1,5 +1,7 @@
+pub mod Bytes
 pub mod Calls
 pub mod Checked
+pub mod Cuts
 pub mod First
 pub mod Flags
 pub mod Kept

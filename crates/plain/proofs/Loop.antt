@@ -1,5 +1,4 @@
--- The loop that reads a piece byte by byte: what holds before each byte, and that the answer is the definition's where the piece or the document ends. Assumes
--- nothing.
+-- The loop that reads a piece byte by byte: what holds before each byte, and that the answer is the definition's where the piece or the document ends. Assumes nothing.
 use Prim.Native.Nat.{ℕ, _+_, _-_, _≤_, _<_}
 use mathlib.Core.Path.{_≡_, refl, sym, ap, ap₂, _∙_, subst}
 use mathlib.Core.List.{List}
@@ -33,7 +32,8 @@ use Rattle.plain.specs.declared.known.Known.{Known}
 use Rattle.plain.specs.Asked.{Faces, Readable, readFrom}
 use Rattle.plain.specs.Known.{nextPart, fresh, sizeOf, endsIn, endsOf, marks, begins, more, tickOf, sameOf}
 use Rattle.plain.specs.Told.{closedIn, closedOf, unclosedIn, unclosedOf}
-use Rattle.plain.proofs.Flags.{and-left, and-right}
+use Rattle.plain.proofs.Bytes.{byte-same, of-three}
+use Rattle.plain.proofs.Flags.{and-left, and-right, and-both, or-cases}
 use Rattle.plain.proofs.Marked.{comment-closed, comment-open, cdata-closed, cdata-open, instruction-closed, instruction-open}
 use Rattle.plain.proofs.Means.{Means}
 use Rattle.plain.proofs.Tags.{closing-closed, closing-open, opening-closed, opening-open, opened-closed, opened-open}
@@ -85,34 +85,12 @@ begin-none : (doc : List ℕ) → beginsWith doc bom ≡ false → begin doc ≡
 unfolding begin
 begin-none doc e = rw e
 
--- the bytes of the mark: the first three places
-of-bom : (M : ℕ → Type 0) (i : ℕ) → i < 3 → M 0 → M 1 → M 2 → M i
-of-bom M i h a b c =
-    elim (decLt i 1) [
-      | yes g ↦ subst M (omega arith) a
-      | no g ↦ elim (decLt i 2) [
-        | yes e ↦ subst M (omega arith) b
-        | no e ↦ subst M (omega arith) c
-      ]
-    ]
-
--- none is white space, and none ends text
+-- of the mark's bytes none is white space, and none ends text
 bom-dark : (i : ℕ) → i < 3 → isWhite (getD bom i 0) ≡ false
-bom-dark i h = of-bom (λ (n : ℕ). isWhite (getD bom n 0) ≡ false) i h refl refl refl
+bom-dark i h = of-three (λ (n : ℕ). isWhite (getD bom n 0) ≡ false) 0 i (omega arith) h refl refl refl
 
 bom-goes : (i b : ℕ) → i < 3 → (eqb b lt || eqb b amp) ≡ true → b ≡ getD bom i 0 → ⊥
-bom-goes i b h e f = clash (eqb b lt || eqb b amp) e (ap (λ (x : ℕ). eqb x lt || eqb x amp) f ∙ of-bom (λ (n : ℕ). (eqb (getD bom n 0) lt || eqb (getD bom n 0) amp) ≡ false) i h refl refl refl)
-
-below-two : (n : ℕ) → n < 3 → (n ≡ 2 → ⊥) → n + 1 < 3
-below-two n h e =
-    elim (decLt n 2) [
-      | yes g ↦ omega arith
-      | no g ↦ absurd (e (omega arith))
-    ]
-
-either : (x y : Bool) → (x || y) ≡ true → (x ≡ true) ⊎ (y ≡ true)
-either true y e = inl refl
-either false y e = inr e
+bom-goes i b h e f = clash (eqb b lt || eqb b amp) e (ap (λ (x : ℕ). eqb x lt || eqb x amp) f ∙ of-three (λ (n : ℕ). (eqb (getD bom n 0) lt || eqb (getD bom n 0) amp) ≡ false) 0 i (omega arith) h refl refl refl)
 
 -- ---- what holds before each byte
 
@@ -181,6 +159,16 @@ module _ (doc : List ℕ) (r : Reader) (open-name : Span) (mark : Bool) (ok : Re
     abbrev b : ℕ
     b = getD doc (k .at) 0
 
+    abbrev trims : Bool
+    trims = r .settings .«trim_text_start»
+
+    -- the two tests of `begins`: the byte is the last of a byte order mark, or white space that is skipped
+    abbrev last-mark : Bool
+    last-mark = marks k b && eqb (k .at) 2
+
+    abbrev skips : Bool
+    skips = (eqb (sizeOf k) 0 && trims) && isWhite b
+
     -- the byte is not the next of a byte order mark
     mark-ends : marks k b ≡ false → k .mark ≡ true → beginsWith doc bom ≡ false
     mark-ends e f =
@@ -188,74 +176,72 @@ module _ (doc : List ℕ) (r : Reader) (open-name : Span) (mark : Bool) (ok : Re
         sym (compare-other (beginsWith doc bom) doc bom (k .at) (k .at) (m .rest) (m .few) l
         (λ q. clash (eqb (getD bom (k .at) 0) b) (eq-eqb (getD bom (k .at) 0) b (sym q)) (ap (λ (x : Bool). x && eqb (getD bom (k .at) 0) b) (sym f) ∙ e)))
 
+    -- or it is
+    module _ (e : marks k b ≡ true) where
+      marking-so : Marking doc mark (g .origin) k
+      marking-so = g .marking (and-left (k .mark) (eqb (getD bom (k .at) 0) b) e)
+
+      mark-byte : b ≡ getD bom (k .at) 0
+      mark-byte = sym (eqb-true (getD bom (k .at) 0) b (and-right (k .mark) (eqb (getD bom (k .at) 0) b) e))
+
+      mark-rest : beginsWith doc bom ≡ beginsWith (drop (k .at + 1) doc) (drop (k .at + 1) bom)
+      mark-rest = compare-turn (beginsWith doc bom) doc bom (k .at) (k .at) (marking-so .rest) (marking-so .few) l mark-byte
+
     -- behind a byte order mark
     after-mark : marks k b ≡ true → eqb (k .at) 2 ≡ true → startsAt doc r mark ≡ k .at + 1
     after-mark e f =
-        let m = g .marking (and-left (k .mark) (eqb (getD bom (k .at) 0) b) e) in
-        let q = eqb-true (getD bom (k .at) 0) b (and-right (k .mark) (eqb (getD bom (k .at) 0) b) e) in
         let two = eqb-true (k .at) 2 f in
-        let on = compare-turn (beginsWith doc bom) doc bom (k .at) (k .at) (m .rest) (m .few) l (sym q) in
-        let all = compare-end (beginsWith doc bom) doc bom (k .at + 1) (k .at + 1) on (omega arith) in
-        ap (λ (x : Bool). pick x (begin doc) (r .position .0)) (m .asked) ∙ begin-three doc (sym all) ∙ omega arith
+        let all = compare-end (beginsWith doc bom) doc bom (k .at + 1) (k .at + 1) (mark-rest e) (omega arith) in
+        ap (λ (x : Bool). pick x (begin doc) (r .position .0)) (marking-so e .asked) ∙ begin-three doc (sym all) ∙ omega arith
 
     -- a piece may begin behind the byte
-    fresh-next : startsAt doc r mark ≡ k .at + 1 → Going doc r open-name mark (fresh (k .at + 1) false)
+    fresh-next : (origin : ℕ) → skipped doc (r .settings) origin ≡ skipped doc (r .settings) (k .at + 1) → startsAt doc r mark ≡ origin
+        → Going doc r open-name mark (fresh (k .at + 1) false)
     unfolding fresh
-    fresh-next e =
+    fresh-next origin f e =
         record {
           tracks = tracks-fresh doc open-name (k .at + 1) false (omega arith);
           means = fresh-means (k .at + 1) false;
-          origin = k .at + 1;
-          link = refl;
-          firm = λ h. absurd (omega arith);
-          marking = λ f. clash false f refl;
-          settled = λ f. e;
-        }
-
-    skip-next : eqb (sizeOf k) 0 ≡ true → (r .settings .«trim_text_start» && isWhite b) ≡ true → marks k b ≡ false → Going doc r open-name mark (fresh (k .at + 1) false)
-    unfolding fresh
-    skip-next e f n =
-        let z : k .from ≡ k .at = omega (arith, eqb-true (sizeOf k) 0 e, g .tracks .low) in
-        record {
-          tracks = tracks-fresh doc open-name (k .at + 1) false (omega arith);
-          means = fresh-means (k .at + 1) false;
-          origin = g .origin;
-          link = g .link ∙ ap (skipped doc (r .settings)) z ∙ skip-one doc (r .settings) (k .at) l f;
+          origin = origin;
+          link = f;
           firm = λ h. absurd (omega arith);
           marking = λ x. clash false x refl;
-          settled = λ x. start-none k g (mark-ends n);
+          settled = λ x. e;
         }
 
+    skip-next : eqb (sizeOf k) 0 ≡ true → (trims && isWhite b) ≡ true → marks k b ≡ false → Going doc r open-name mark (fresh (k .at + 1) false)
+    skip-next e f n =
+        let z : k .from ≡ k .at = omega (arith, eqb-true (sizeOf k) 0 e, g .tracks .low) in
+        fresh-next (g .origin) (g .link ∙ ap (skipped doc (r .settings)) z ∙ skip-one doc (r .settings) (k .at) l f) (start-none k g (mark-ends n))
+
     -- the piece's first byte is not skipped
-    firm-next : begins k b (r .settings .«trim_text_start») ≡ false → k .from < k .at + 1 → skipped doc (r .settings) (k .from) ≡ k .from
+    firm-next : begins k b trims ≡ false → k .from < k .at + 1 → skipped doc (r .settings) (k .from) ≡ k .from
     firm-next e h =
         elim (decLt (k .from) (k .at)) [
           | yes x ↦ g .firm x
           | no x ↦
               let z : k .from ≡ k .at = omega arith in
               let w : eqb (sizeOf k) 0 ≡ true = eq-eqb (sizeOf k) 0 (omega arith) in
-              let f = or-right (marks k b && eqb (k .at) 2) ((eqb (sizeOf k) 0 && r .settings .«trim_text_start») && isWhite b) e in
               ap (skipped doc (r .settings)) z
-              ∙ skip-none doc (r .settings) (k .at) l (ap (λ (y : Bool). (y && r .settings .«trim_text_start») && isWhite b) (sym w) ∙ f)
+              ∙ skip-none doc (r .settings) (k .at) l (ap (λ (y : Bool). (y && trims) && isWhite b) (sym w) ∙ or-right last-mark skips e)
               ∙ sym z
         ]
 
     -- the byte order mark goes on
-    marking-next : (same : Bool) → begins k b (r .settings .«trim_text_start») ≡ false → marks k b ≡ true → Marking doc mark (g .origin) (more k b same)
+    marking-next : (same : Bool) → begins k b trims ≡ false → marks k b ≡ true → Marking doc mark (g .origin) (more k b same)
     unfolding more
     marking-next same e f =
-        let m = g .marking (and-left (k .mark) (eqb (getD bom (k .at) 0) b) f) in
-        let q = eqb-true (getD bom (k .at) 0) b (and-right (k .mark) (eqb (getD bom (k .at) 0) b) f) in
-        let n = eqb-false (k .at) 2 (ap (λ (y : Bool). y && eqb (k .at) 2) (sym f) ∙ or-left (marks k b && eqb (k .at) 2) ((eqb (sizeOf k) 0 && r .settings .«trim_text_start») && isWhite b) e) in
+        let m = marking-so f in
+        let n = eqb-false (k .at) 2 (ap (λ (y : Bool). y && eqb (k .at) 2) (sym f) ∙ or-left last-mark skips e) in
         record {
           asked = m .asked;
           start = m .start;
-          few = below-two (k .at) (m .few) n;
-          rest = compare-turn (beginsWith doc bom) doc bom (k .at) (k .at) (m .rest) (m .few) l (sym q);
-          is = inr (⊎-elim (λ u. ap₂ nextPart (u .0) (sym q ∙ ap (λ (i : ℕ). getD bom i 0) (u .1))) (λ u. ap (λ (p : Part). nextPart p b) u) (m .is));
+          few = omega (arith, m .few);
+          rest = mark-rest f;
+          is = inr (⊎-elim (λ u. ap₂ nextPart (u .0) (mark-byte f ∙ byte-same bom (k .at) 0 (u .1))) (λ u. ap (λ (p : Part). nextPart p b) u) (m .is));
         }
 
-    more-next : (same : Bool) → same ≡ sameOf doc k open-name b → endsOf k b ≡ false → begins k b (r .settings .«trim_text_start») ≡ false → Going doc r open-name mark (more k b same)
+    more-next : (same : Bool) → same ≡ sameOf doc k open-name b → endsOf k b ≡ false → begins k b trims ≡ false → Going doc r open-name mark (more k b same)
     unfolding more endsOf
     more-next same q f e =
         record {
@@ -273,27 +259,22 @@ module _ (doc : List ℕ) (r : Reader) (open-name : Span) (mark : Bool) (ok : Re
       where
         by : (x : Bool) → marks k b ≡ x → marks k b ≡ false
         by false e = e
-        by true e =
-            let m = g .marking (and-left (k .mark) (eqb (getD bom (k .at) 0) b) e) in
-            let q = eqb-true (getD bom (k .at) 0) b (and-right (k .mark) (eqb (getD bom (k .at) 0) b) e) in
-            clash (isWhite b) w (ap isWhite (sym q) ∙ bom-dark (k .at) (m .few))
+        by true e = clash (isWhite b) w (ap isWhite (mark-byte e) ∙ bom-dark (k .at) (marking-so e .few))
 
-    skip-any : ((eqb (sizeOf k) 0 && r .settings .«trim_text_start») && isWhite b) ≡ true → Going doc r open-name mark (fresh (k .at + 1) false)
+    skip-any : skips ≡ true → Going doc r open-name mark (fresh (k .at + 1) false)
     skip-any x =
-        let w = and-right (eqb (sizeOf k) 0 && r .settings .«trim_text_start») (isWhite b) x in
-        let y = and-left (eqb (sizeOf k) 0 && r .settings .«trim_text_start») (isWhite b) x in
-        skip-next (and-left (eqb (sizeOf k) 0) (r .settings .«trim_text_start») y)
-        (rw (and-right (eqb (sizeOf k) 0) (r .settings .«trim_text_start») y) w)
-        (marks-off w)
+        let w = and-right (eqb (sizeOf k) 0 && trims) (isWhite b) x in
+        let y = and-left (eqb (sizeOf k) 0 && trims) (isWhite b) x in
+        skip-next (and-left (eqb (sizeOf k) 0) trims y) (and-both trims (isWhite b) (and-right (eqb (sizeOf k) 0) trims y) w) (marks-off w)
 
     pub going-tick : (next : Known) (trim same ends : Bool) → ends ≡ endsOf k b → ends ≡ false → same ≡ sameOf doc k open-name b → trim ≡ r .settings .«trim_text_start»
         → next ≡ tickOf k b trim same → Going doc r open-name mark next
     unfolding tickOf
     going-tick next trim same ends ee en q tr e =
         subst (Going doc r open-name mark) (sym (e ∙ ap (λ (x : Bool). pick (begins k b x) (fresh (k .at + 1) false) (more k b same)) tr))
-        (pick-cases (Going doc r open-name mark) (begins k b (r .settings .«trim_text_start»)) _ _
-        (λ x. ⊎-elim (λ u. fresh-next (after-mark (and-left (marks k b) (eqb (k .at) 2) u) (and-right (marks k b) (eqb (k .at) 2) u))) skip-any
-        (either (marks k b && eqb (k .at) 2) ((eqb (sizeOf k) 0 && r .settings .«trim_text_start») && isWhite b) x))
+        (pick-cases (Going doc r open-name mark) (begins k b trims) _ _
+        (λ x. ⊎-elim (λ u. fresh-next (k .at + 1) refl (after-mark (and-left (marks k b) (eqb (k .at) 2) u) (and-right (marks k b) (eqb (k .at) 2) u))) skip-any
+        (or-cases last-mark skips x))
         (λ x. more-next same q (sym ee ∙ en) x))
 
   -- ---- the piece ends

@@ -6,29 +6,25 @@ use mathlib.Core.Bool.{Bool, true, false, not, _&&_, _||_}
 use mathlib.Core.Logic.{inl, inr, ⊎-elim}
 use native.Mathlib.Omega.{arith}
 use native.Mathlib.Decide.{decLt}
-use lib.ListN.{length, getD, drop, length-drop}
+use lib.ListN.{length, getD, drop, length-drop, List·getD-append}
 use lib.Seq.{getD-drop}
 use lib.Dec.{eqb, leb, ltb}
-use borrow.Author.Tests.{eq-eqb, eqb-true, eqb-false, lt-leb, le-leb, leb-true, leb-false, lt-ltb, le-ltb, ltb-false}
-use Rattle.ground.specs.Bytes.{bang, closeBracket, gt, hyphen, lt, openBracket, question}
+use borrow.Author.Tests.{eq-eqb, eqb-true, eqb-false, lt-leb, le-leb, leb-true, leb-false, ltb-false}
+use Rattle.ground.specs.Bytes.{closeBracket, gt, hyphen, lt, openBracket, question}
 use Rattle.ground.specs.Choose.{pick}
 use Rattle.ground.specs.Equal.{begins}
-use Rattle.ground.specs.Least.{Nowhere}
+use Rattle.ground.specs.Least.{Gives}
 use Rattle.ground.specs.Part.{part}
-use Rattle.ground.proofs.Choices.{both, clash, must-fail, pick-cases, pick-either}
-use Rattle.ground.proofs.Equal.{begins-long, begins-within}
+use Rattle.ground.proofs.Choices.{both, clash, must-fail, not-true, pick-cases, pick-either}
+use Rattle.ground.proofs.Equal.{begins-is, begins-long, begins-within}
 use Rattle.ground.proofs.First.{least-one}
-use Rattle.ground.proofs.Lists.{part-length, part-byte, stands-in}
+use Rattle.ground.proofs.Lists.{part-length}
 use Rattle.white.specs.White.{isWhite, EndsAt, nameLen as nameOf}
 use Rattle.white.proofs.Words.{name-len-least}
-use Rattle.utf8.specs.Utf8.{check, byUtf8}
-use Rattle.utf8.specs.declared.Utf8.{Utf8}
-use Rattle.utf8.specs.declared.Utf8.the-variants.{WellFormed, IllFormed}
 use Rattle.parser.specs.Hyphens.{pairFound, PairEnd}
-use Rattle.parser.specs.Marks.{piFound, commentFound, cdataFound, PiEnd, CommentEnd, CDataEnd}
+use Rattle.parser.specs.Marks.{piFound, commentFound, cdataFound, MarkedEnd, PiEnd, CommentEnd, CDataEnd}
 use Rattle.parser.specs.declared.first.Found.{Found as FirstFound}
 use Rattle.parser.specs.declared.marks.Found.{Found as MarksFound}
-use Rattle.parser.proofs.Cases.{marks-cases}
 use Rattle.parser.proofs.Words.{pi-gives, comment-gives, cdata-gives, pair-gives}
 use Rattle.state.specs.declared.place.Depth.{Depth}
 use Rattle.state.specs.declared.place.Span.{Span}
@@ -43,185 +39,143 @@ use Rattle.state.specs.Make.{event, told, refused, stopped}
 use Rattle.emit.specs.Bang.{commentOpener, cdataOpener, bangEvent, checkedComment, emitComment, emitCData}
 use Rattle.emit.specs.Question.{xml, isDecl, questionEvent, emitQuestionMark, unclosedQuestion}
 use Rattle.reader.specs.declared.piece.Shape.{Shape}
-use Rattle.reader.specs.declared.piece.Cut.{Cut}
-use Rattle.reader.specs.Cut.{whole, stop as stopCut, cutMarked, cutBang, cutQuestion, cutMarkup, cutNext}
-use Rattle.reader.specs.Step.{emittedAs, emitted, checked, taken}
+use Rattle.reader.specs.Cut.{cutMarked, cutBang, cutNext}
+use Rattle.reader.specs.Step.{emittedAs, taken}
 use Rattle.plain.specs.declared.known.Part.{Part}
 use Rattle.plain.specs.declared.known.Known.{Known}
 use Rattle.plain.specs.Known.{declOpener, goes, opens, sizeOf, nameLen, endsIn}
 use Rattle.plain.specs.Told.{tell, stop, commentOf, cdataOf, instructionOf, becomes, wholeOf, behind, closer, noCloser, read, closedPiece, closedIn, unclosedIn}
-use Rattle.plain.proofs.First.{First, White, name-is}
-use Rattle.plain.proofs.Flags.{and-left, and-right}
-use Rattle.plain.proofs.Letters.{spelt-well-more, spelt-ill-more}
+use Rattle.plain.proofs.Bytes.{byte-same, part-same, of-two, of-three}
+use Rattle.plain.proofs.Checked.{inner-to, open-is, closed-is}
+use Rattle.plain.proofs.Cuts.{bang-cut, question-cut, marked-to, marked-open}
+use Rattle.plain.proofs.First.{First, White, first-late, name-is}
+use Rattle.plain.proofs.Flags.{and-then, and-left, and-right, and-both, or-first, or-second, agree, unless, turned, pick-else}
 use Rattle.plain.proofs.Means.{Right, Means, Instructed}
 use Rattle.plain.proofs.Tracks.{Tracks}
 
 -- ---- where a piece ends
 
-one-or-two : (P : ℕ → Type 0) → P 1 → P 2 → (j : ℕ) → 0 < j → j ≤ 2 → P j
-one-or-two P one two zero h u = absurd (omega arith)
-one-or-two P one two (suc zero) h u = one
-one-or-two P one two (suc (suc zero)) h u = two
-one-or-two P one two (suc (suc (suc j))) h u = absurd (omega arith)
-
-only-one : (P : ℕ → Type 0) → P 1 → (j : ℕ) → 0 < j → j ≤ 1 → P j
-only-one P one zero h u = absurd (omega arith)
-only-one P one (suc zero) h u = one
-only-one P one (suc (suc j)) h u = absurd (omega arith)
-
--- the test of the byte at hand says that it does not end there
-pub comment-goes : (doc : List ℕ) (open-name : Span) (k : Known) → Tracks doc open-name k → k .at < length doc → Means doc k Part.Comment
-    → endsIn k (getD doc (k .at) 0) Part.Comment ≡ false → CommentEnd doc (k .from) (k .at) → ⊥
-comment-goes doc open-name k t l m e p =
-    let far = m .size in
-    clash (endsIn k (getD doc (k .at) 0) Part.Comment)
-    (rw (
-      eq-eqb (getD doc (k .at) 0) gt (p .closes),
-      eq-eqb (k .last) hyphen (t .last (omega arith) ∙ p .marks 1 (omega arith) (omega arith)),
-      eq-eqb (k .before) hyphen (t .before (omega arith) ∙ p .marks 2 (omega arith) (omega arith)),
-      le-leb 6 (sizeOf k) (omega (arith, p .after)),
-    ))
-    e
-
-pub cdata-goes : (doc : List ℕ) (open-name : Span) (k : Known) → Tracks doc open-name k → k .at < length doc → Means doc k Part.CData
-    → endsIn k (getD doc (k .at) 0) Part.CData ≡ false → CDataEnd doc (k .from) (k .at) → ⊥
-cdata-goes doc open-name k t l m e p =
-    let far = m .size in
-    clash (endsIn k (getD doc (k .at) 0) Part.CData)
-    (rw (
-      eq-eqb (getD doc (k .at) 0) gt (p .closes),
-      eq-eqb (k .last) closeBracket (t .last (omega arith) ∙ p .marks 1 (omega arith) (omega arith)),
-      eq-eqb (k .before) closeBracket (t .before (omega arith) ∙ p .marks 2 (omega arith) (omega arith)),
-    ))
-    e
-
-pub instruction-goes : (doc : List ℕ) (open-name : Span) (k : Known) → Tracks doc open-name k → k .at < length doc → Means doc k Part.Instruction
-    → endsIn k (getD doc (k .at) 0) Part.Instruction ≡ false → PiEnd doc (k .from) (k .at) → ⊥
-instruction-goes doc open-name k t l m e p =
-    let far = m .size in
-    clash (endsIn k (getD doc (k .at) 0) Part.Instruction)
-    (rw (
-      eq-eqb (getD doc (k .at) 0) gt (p .closes),
-      eq-eqb (k .last) question (t .last (omega arith) ∙ p .marks 1 (omega arith) (omega arith)),
-    ))
-    e
-
--- and that it does
 module _ (doc : List ℕ) (open-name : Span) (k : Known) (t : Tracks doc open-name k) (l : k .at < length doc) where
   abbrev b : ℕ
   b = getD doc (k .at) 0
 
+  -- the byte at hand is a `>`, and the mark stands just before, or twice
+  abbrev one-test : ℕ → Bool
+  one-test mark = eqb b gt && eqb (k .last) mark
+
+  abbrev two-test : ℕ → Bool
+  two-test mark = one-test mark && eqb (k .before) mark
+
+  -- where a piece ends the tests hold
+  one-holds : (mark need least : ℕ) → k .from < k .at → 1 ≤ need → MarkedEnd mark need least doc (k .from) (k .at) → one-test mark ≡ true
+  one-holds mark need least h n p =
+      and-both (eqb b gt) (eqb (k .last) mark) (eq-eqb b gt (p .closes)) (eq-eqb (k .last) mark (t .last h ∙ p .marks 1 (omega arith) n))
+
+  two-holds : (mark least : ℕ) → k .from + 1 < k .at → MarkedEnd mark 2 least doc (k .from) (k .at) → two-test mark ≡ true
+  two-holds mark least h p =
+      and-both (one-test mark) (eqb (k .before) mark) (one-holds mark 2 least (omega arith) (omega arith) p)
+      (eq-eqb (k .before) mark (t .before h ∙ p .marks 2 (omega arith) (omega arith)))
+
+  -- and it ends where they hold
+  module _ (mark : ℕ) (h : k .from < k .at) (e : one-test mark ≡ true) where
+    closes-here : b ≡ gt
+    closes-here = eqb-true b gt (and-left (eqb b gt) (eqb (k .last) mark) e)
+
+    mark-here : getD doc (k .at - 1) 0 ≡ mark
+    mark-here = sym (t .last h) ∙ eqb-true (k .last) mark (and-right (eqb b gt) (eqb (k .last) mark) e)
+
+    one-ends : (least : ℕ) → k .from + least ≤ k .at → MarkedEnd mark 1 least doc (k .from) (k .at)
+    one-ends least a =
+        record { after = a; within = l; closes = closes-here; marks = λ j g u. byte-same doc (k .at - j) (k .at - 1) (omega arith) ∙ mark-here }
+
+  two-ends : (mark least : ℕ) → k .from + 1 < k .at → k .from + least ≤ k .at → two-test mark ≡ true → MarkedEnd mark 2 least doc (k .from) (k .at)
+  two-ends mark least h a e =
+      let f = and-left (one-test mark) (eqb (k .before) mark) e in
+      record {
+        after = a;
+        within = l;
+        closes = closes-here mark (omega arith) f;
+        marks = λ j g u.
+            of-two (λ (i : ℕ). getD doc (k .at - i) 0 ≡ mark) 1 j g (omega arith) (mark-here mark (omega arith) f)
+            (sym (t .before h) ∙ eqb-true (k .before) mark (and-right (one-test mark) (eqb (k .before) mark) e));
+      }
+
+  -- the test of the byte at hand says that it does not end there
+  pub comment-goes : Means doc k Part.Comment → endsIn k (getD doc (k .at) 0) Part.Comment ≡ false → CommentEnd doc (k .from) (k .at) → ⊥
+  comment-goes m e p =
+      clash (endsIn k b Part.Comment)
+      (and-both (two-test hyphen) (leb 6 (sizeOf k)) (two-holds hyphen 6 (omega (arith, m .size)) p) (le-leb 6 (sizeOf k) (omega (arith, p .after)))) e
+
+  pub cdata-goes : Means doc k Part.CData → endsIn k (getD doc (k .at) 0) Part.CData ≡ false → CDataEnd doc (k .from) (k .at) → ⊥
+  cdata-goes m e p = clash (endsIn k b Part.CData) (two-holds closeBracket 2 (omega (arith, m .size)) p) e
+
+  pub instruction-goes : Means doc k Part.Instruction → endsIn k (getD doc (k .at) 0) Part.Instruction ≡ false → PiEnd doc (k .from) (k .at) → ⊥
+  instruction-goes m e p = clash (endsIn k b Part.Instruction) (one-holds question 1 1 (omega (arith, m .size)) (omega arith) p) e
+
+  -- and that it does
   comment-ends : Means doc k Part.Comment → endsIn k b Part.Comment ≡ true → CommentEnd doc (k .from) (k .at)
   comment-ends m e =
-      let far = m .size in
-      let three = and-left ((eqb b gt && eqb (k .last) hyphen) && eqb (k .before) hyphen) (leb 6 (sizeOf k)) e in
-      let two = and-left (eqb b gt && eqb (k .last) hyphen) (eqb (k .before) hyphen) three in
-      record {
-        after = omega (arith, leb-true 6 (sizeOf k) (and-right ((eqb b gt && eqb (k .last) hyphen) && eqb (k .before) hyphen) (leb 6 (sizeOf k)) e));
-        within = l;
-        closes = eqb-true b gt (and-left (eqb b gt) (eqb (k .last) hyphen) two);
-        marks =
-            one-or-two (λ (j : ℕ). getD doc (k .at - j) 0 ≡ hyphen)
-            (sym (t .last (omega arith)) ∙ eqb-true (k .last) hyphen (and-right (eqb b gt) (eqb (k .last) hyphen) two))
-            (sym (t .before (omega arith)) ∙ eqb-true (k .before) hyphen (and-right (eqb b gt && eqb (k .last) hyphen) (eqb (k .before) hyphen) three));
-      }
+      two-ends hyphen 6 (omega (arith, m .size)) (omega (arith, leb-true 6 (sizeOf k) (and-right (two-test hyphen) (leb 6 (sizeOf k)) e)))
+      (and-left (two-test hyphen) (leb 6 (sizeOf k)) e)
 
   cdata-ends : Means doc k Part.CData → endsIn k b Part.CData ≡ true → CDataEnd doc (k .from) (k .at)
-  cdata-ends m e =
-      let far = m .size in
-      let two = and-left (eqb b gt && eqb (k .last) closeBracket) (eqb (k .before) closeBracket) e in
-      record {
-        after = omega arith;
-        within = l;
-        closes = eqb-true b gt (and-left (eqb b gt) (eqb (k .last) closeBracket) two);
-        marks =
-            one-or-two (λ (j : ℕ). getD doc (k .at - j) 0 ≡ closeBracket)
-            (sym (t .last (omega arith)) ∙ eqb-true (k .last) closeBracket (and-right (eqb b gt) (eqb (k .last) closeBracket) two))
-            (sym (t .before (omega arith)) ∙ eqb-true (k .before) closeBracket (and-right (eqb b gt && eqb (k .last) closeBracket) (eqb (k .before) closeBracket) e));
-      }
+  cdata-ends m e = two-ends closeBracket 2 (omega (arith, m .size)) (omega (arith, m .size)) e
 
   instruction-ends : Means doc k Part.Instruction → endsIn k b Part.Instruction ≡ true → PiEnd doc (k .from) (k .at)
-  instruction-ends m e =
-      let far = m .size in
-      record {
-        after = omega arith;
-        within = l;
-        closes = eqb-true b gt (and-left (eqb b gt) (eqb (k .last) question) e);
-        marks =
-            only-one (λ (j : ℕ). getD doc (k .at - j) 0 ≡ question)
-            (sym (t .last (omega arith)) ∙ eqb-true (k .last) question (and-right (eqb b gt) (eqb (k .last) question) e));
-      }
+  instruction-ends m e = one-ends question (omega (arith, m .size)) e 1 (omega (arith, m .size))
 
--- ---- what is cut off
+-- ---- a piece of any of the three kinds
 
-module _ (doc : List ℕ) (from : ℕ) (first : getD doc from 0 ≡ lt) where
-  module _ (second : getD doc (from + 1) 0 ≡ bang) where
-    bang-cut : cutNext doc from ≡ cutBang doc from (getD doc (from + 2) 0)
-    unfolding cutNext cutMarkup
-    bang-cut =
-        rw (
-          eq-eqb (getD doc from 0) lt first,
-          lt-leb (length doc) (from + 1) (stands-in doc (from + 1) bang second (omega arith)),
-          eq-eqb (getD doc (from + 1) 0) bang second,
-        )
+-- its end is looked for, and there is none among the bytes so far
+record Looked (doc : List ℕ) (k : Known) (shape : Shape) (error : Error) (mark need least : ℕ) : Type 0 where
+  found : MarksFound
+  cut : cutNext doc (k .from) ≡ cutMarked doc (k .from) found shape error
+  gives : Gives MarksFound.At found (MarkedEnd mark need least doc (k .from))
+  none : (j : ℕ) → j < k .at → MarkedEnd mark need least doc (k .from) j → ⊥
 
-    comment-cut : getD doc (from + 2) 0 ≡ hyphen → cutNext doc from ≡ cutMarked doc from (commentFound doc from) Shape.Comment Error.UnclosedComment
-    unfolding cutBang
-    comment-cut third = bang-cut ∙ ap (cutBang doc from) third
+module _ (doc : List ℕ) (r : Reader) (open-name : Span) (room : Depth) (k : Known) (p : Part) (shape : Shape) (error : Error) (mark need least : ℕ)
+    (e : k .part ≡ p) (s : Looked doc k shape error mark need least) where
+  -- nor among all
+  open-by : k .at ≡ length doc → closer k p ≡ error → stop r (noCloser k) (read r k open-name room) ≡ taken doc r open-name room (cutNext doc (k .from))
+  open-by z f =
+      open-is doc r open-name room k p error z e f
+      (s .cut ∙ marked-open doc (k .from) (s .found) shape error (s .gives .none .1 (λ j c. s .none j (omega (arith, c .within)) c)))
 
-    cdata-cut : getD doc (from + 2) 0 ≡ openBracket → cutNext doc from ≡ cutMarked doc from (cdataFound doc from) Shape.CData Error.UnclosedCData
-    unfolding cutBang
-    cdata-cut third = bang-cut ∙ ap (cutBang doc from) third
+  -- it ends with the byte at hand
+  closed-by : Tracks doc open-name k → MarkedEnd mark need least doc (k .from) (k .at)
+      → becomes r k (span (k .from) (k .at + 1)) Phase.InsideText open-name room p
+      ≡ emittedAs doc r open-name room shape (span (k .from) (k .at + 1)) Phase.InsideText
+      → wholeOf r k (closedPiece r k open-name room (getD doc (k .at) 0)) (behind (getD doc (k .at) 0)) open-name room
+      ≡ taken doc r open-name room (cutNext doc (k .from))
+  closed-by t c f =
+      closed-is doc r open-name room k t shape p gt (c .within) (c .closes) (omega arith) refl e f
+      (s .cut ∙ marked-to doc (k .from) (s .found) shape error (k .at) (s .gives .found (k .at) .1 (record { has = c; before = s .none })))
 
-  question-cut : getD doc (from + 1) 0 ≡ question → cutNext doc from ≡ cutMarked doc from (piFound doc from) Shape.QuestionMark (unclosedQuestion doc (at from))
-  unfolding cutNext cutMarkup cutQuestion cutMarked
-  question-cut second =
-      rw (
-        eq-eqb (getD doc from 0) lt first,
-        lt-leb (length doc) (from + 1) (stands-in doc (from + 1) question second (omega arith)),
-        second,
-      )
+-- the three kinds
+module _ (doc : List ℕ) (k : Known) where
+  comment-looked : Means doc k Part.Comment → Looked doc k Shape.Comment Error.UnclosedComment hyphen 2 6
+  unfolding cutBang
+  comment-looked m =
+      record { found = commentFound doc (k .from); cut = bang-cut doc (k .from) (m .first) hyphen (m .second) (m .third); gives = comment-gives doc (k .from); none = m .none }
 
--- ---- a piece without its closer
+  cdata-looked : Means doc k Part.CData → Looked doc k Shape.CData Error.UnclosedCData closeBracket 2 2
+  unfolding cutBang
+  cdata-looked m =
+      record { found = cdataFound doc (k .from); cut = bang-cut doc (k .from) (m .first) openBracket (m .second) (m .third); gives = cdata-gives doc (k .from); none = m .none }
 
-module _ (doc : List ℕ) (r : Reader) (open-name : Span) (room : Depth) where
-  taken-open : (from : ℕ) (found : MarksFound) (shape : Shape) (error : Error) → ((p : ℕ) → found ≡ MarksFound.At p → ⊥)
-      → stopped r error (at from) (span from (length doc)) ≡ taken doc r open-name room (cutMarked doc from found shape error)
-  unfolding cutMarked taken stopCut
-  taken-open from found shape error n =
-      marks-cases (λ (c : Cut). stopped r error (at from) (span from (length doc)) ≡ taken doc r open-name room c) found _ _ (λ p e. absurd (n p e)) refl
-
--- at the end of the document nothing has ended
-nowhere : (doc : List ℕ) (n : ℕ) (P : ℕ → Type 0) → n ≡ length doc → ((p : ℕ) → P p → p < length doc) → ((j : ℕ) → j < n → P j → ⊥) → Nowhere P
-nowhere doc n P z w none p h =
-    let u = w p h in
-    none p (omega arith) h
-
-module _ (doc : List ℕ) (r : Reader) (open-name : Span) (room : Depth) (k : Known) (z : k .at ≡ length doc) where
-  -- the answer, by what the piece is
-  open-by : (p : Part) (error : Error) → k .part ≡ p → closer k p ≡ error
-      → stop r (noCloser k) (read r k open-name room) ≡ stopped r error (at (k .from)) (span (k .from) (length doc))
-  unfolding stop noCloser
-  open-by p error e f =
-      ap (λ (q : Part). stopped r (closer k q) (at (k .from)) (span (k .from) (k .at))) e
-      ∙ ap (λ (x : Error). stopped r x (at (k .from)) (span (k .from) (k .at))) f
-      ∙ ap (λ (n : ℕ). stopped r error (at (k .from)) (span (k .from) n)) z
+  instruction-looked : Means doc k Part.Instruction → Looked doc k Shape.QuestionMark (unclosedQuestion doc (at (k .from))) question 1 1
+  instruction-looked m =
+      record { found = piFound doc (k .from); cut = question-cut doc (k .from) (m .first) (m .second); gives = pi-gives doc (k .from); none = m .none }
 
 pub comment-open : (doc : List ℕ) (r : Reader) (open-name : Span) (room : Depth) (k : Known) → Tracks doc open-name k → k .at ≡ length doc
     → k .part ≡ Part.Comment → Means doc k Part.Comment → unclosedIn r k open-name room Part.Comment ≡ taken doc r open-name room (cutNext doc (k .from))
 comment-open doc r open-name room k t z e m =
-    open-by doc r open-name room k z Part.Comment Error.UnclosedComment e refl
-    ∙ taken-open doc r open-name room (k .from) (commentFound doc (k .from)) Shape.Comment Error.UnclosedComment
-    (comment-gives doc (k .from) .none .1 (nowhere doc (k .at) (CommentEnd doc (k .from)) z (λ p h. h .within) (m .none)))
-    ∙ ap (taken doc r open-name room) (sym (comment-cut doc (k .from) (m .first) (m .second) (m .third)))
+    open-by doc r open-name room k Part.Comment Shape.Comment Error.UnclosedComment hyphen 2 6 e (comment-looked doc k m) z refl
 
 pub cdata-open : (doc : List ℕ) (r : Reader) (open-name : Span) (room : Depth) (k : Known) → Tracks doc open-name k → k .at ≡ length doc
     → k .part ≡ Part.CData → Means doc k Part.CData → unclosedIn r k open-name room Part.CData ≡ taken doc r open-name room (cutNext doc (k .from))
 cdata-open doc r open-name room k t z e m =
-    open-by doc r open-name room k z Part.CData Error.UnclosedCData e refl
-    ∙ taken-open doc r open-name room (k .from) (cdataFound doc (k .from)) Shape.CData Error.UnclosedCData
-    (cdata-gives doc (k .from) .none .1 (nowhere doc (k .at) (CDataEnd doc (k .from)) z (λ p h. h .within) (m .none)))
-    ∙ ap (taken doc r open-name room) (sym (cdata-cut doc (k .from) (m .first) (m .second) (m .third)))
+    open-by doc r open-name room k Part.CData Shape.CData Error.UnclosedCData closeBracket 2 2 e (cdata-looked doc k m) z refl
 
 -- ---- the opener
 
@@ -245,19 +199,7 @@ begins-all [] (w ∷ ws) h f = absurd (omega arith)
 begins-all (b ∷ bs) (w ∷ ws) h f = rw (eq-eqb b w (f 0 (omega arith))) (begins-all bs ws (omega arith) (λ j l. f (suc j) (omega arith)))
 
 begins-byte : (s word : List ℕ) (j : ℕ) → begins s word ≡ true → j < length word → getD s j 0 ≡ getD word j 0
-unfolding begins
-begins-byte s [] j e h = absurd (omega arith)
-begins-byte [] (w ∷ ws) j e h = clash false e refl
-begins-byte (b ∷ bs) (w ∷ ws) zero e h = by (eqb b w) refl e
-  where
-    by : (x : Bool) → eqb b w ≡ x → pick x (begins bs ws) false ≡ true → b ≡ w
-    by true q f = eqb-true b w q
-    by false q f = clash false f refl
-begins-byte (b ∷ bs) (w ∷ ws) (suc j) e h = begins-byte bs ws j (by (eqb b w) e) (omega arith)
-  where
-    by : (x : Bool) → pick x (begins bs ws) false ≡ true → begins bs ws ≡ true
-    by true f = f
-    by false f = clash false f refl
+begins-byte s word j e h = ap (λ (bs : List ℕ). getD bs j 0) (begins-is s word .0 e) ∙ List·getD-append word (drop (length word) s) 0 j h
 
 -- from a place on
 module _ (doc word : List ℕ) (from : ℕ) where
@@ -267,33 +209,25 @@ module _ (doc word : List ℕ) (from : ℕ) where
   begins-there : (j : ℕ) → begins (drop from doc) word ≡ true → j < length word → getD doc (from + j) 0 ≡ getD word j 0
   begins-there j e h = sym (getD-drop from doc j 0) ∙ begins-byte (drop from doc) word j e h
 
-  -- all bytes go with the word, or one does not
-  begins-right : (n : ℕ) → n ≤ length doc → from + length word ≤ n → ((j : ℕ) → from ≤ j → j < n → goes word (j - from) (getD doc j 0) ≡ true)
-      → begins (drop from doc) word ≡ true
-  begins-right n u h f =
-      begins-here (omega arith)
-      (λ j l. let e : from + j - from ≡ j = omega arith in
-      goes-true word j (getD doc (from + j) 0) l (sym (ap (λ (i : ℕ). goes word i (getD doc (from + j) 0)) e) ∙ f (from + j) (omega arith) (omega arith)))
-
-  begins-wrong : (j : ℕ) → from ≤ j → goes word (j - from) (getD doc j 0) ≡ false → begins (drop from doc) word ≡ false
-  begins-wrong j h e =
+  -- the document begins with the word there exactly where all bytes of the piece go with it
+  opener-is : (n : ℕ) (right : Bool) → n ≤ length doc → (right ≡ true → from + length word ≤ n)
+      → (right ≡ true → (j : ℕ) → from ≤ j → j < n → goes word (j - from) (getD doc j 0) ≡ true)
+      → (right ≡ false → (j : ℕ) × (from ≤ j) × (j < n) × (goes word (j - from) (getD doc j 0) ≡ false))
+      → begins (drop from doc) word ≡ right
+  opener-is n right u h all some =
+      agree (begins (drop from doc) word) right
+      (λ e. begins-here (omega (arith, h e))
+      (λ j l. let back : from + j - from ≡ j = omega arith in
+      goes-true word j (getD doc (from + j) 0) l
+      (sym (ap (λ (i : ℕ). goes word i (getD doc (from + j) 0)) back) ∙ all e (from + j) (omega arith) (omega (arith, h e)))))
+      (λ e. let w = some e in
+      let back = w .1 in
       must-fail (begins (drop from doc) word)
-      (λ g. let back : from + (j - from) ≡ j = omega arith in
-      clash (goes word (j - from) (getD doc j 0))
-      (goes-here word (j - from) (getD doc j 0) (λ l. ap (λ (i : ℕ). getD doc i 0) (sym back) ∙ begins-there (j - from) g l)) e)
+      (λ g. clash (goes word (w .0 - from) (getD doc (w .0) 0))
+      (goes-here word (w .0 - from) (getD doc (w .0) 0)
+      (λ l. byte-same doc (w .0) (from + (w .0 - from)) (omega arith) ∙ begins-there (w .0 - from) g l)) (w .3)))
 
 -- ---- `<?xml`, and white space or `?` behind it
-
-or-first : (x y : Bool) → x ≡ true → (x || y) ≡ true
-or-first true y e = refl
-or-first false y e = clash false e refl
-
-or-second : (x y : Bool) → y ≡ true → (x || y) ≡ true
-or-second true y e = refl
-or-second false y e = e
-
-both-hold : (x y : Bool) → x ≡ true → y ≡ true → (x && y) ≡ true
-both-hold x y e f = rw (e, f)
 
 abbrev ends-name : ℕ → Bool
 ends-name b = isWhite b || eqb b question
@@ -324,11 +258,9 @@ module _ (doc : List ℕ) (from n : ℕ) where
 
   declares-opens : Declares → (j : ℕ) → from ≤ j → j < n → opens Part.Instruction (j - from) (getD doc j 0) ≡ true
   declares-opens d j h l =
-      let back : from + (j - from) ≡ j = omega arith in
-      both-hold (goes declOpener (j - from) (getD doc j 0)) _
-      (goes-here declOpener (j - from) (getD doc j 0) (λ u. ap (λ (i : ℕ). getD doc i 0) (sym back) ∙ d .0 (j - from) u (omega arith)))
-      (sixth-here (j - from) (getD doc j 0) (λ e. let six : from + 5 ≡ j = omega arith in
-      ap (λ (i : ℕ). ends-name (getD doc i 0)) (sym six) ∙ d .1 (omega arith)))
+      and-both (goes declOpener (j - from) (getD doc j 0)) _
+      (goes-here declOpener (j - from) (getD doc j 0) (λ u. byte-same doc j (from + (j - from)) (omega arith) ∙ d .0 (j - from) u (omega arith)))
+      (sixth-here (j - from) (getD doc j 0) (λ e. ap ends-name (byte-same doc j (from + 5) (omega arith)) ∙ d .1 (omega arith)))
 
   declares-right : (right : Bool) → Right doc Part.Instruction from n right → Declares → right ≡ true
   declares-right true o d = refl
@@ -376,83 +308,21 @@ pub instruction-open : (doc : List ℕ) (r : Reader) (open-name : Span) (room : 
     → k .part ≡ Part.Instruction → Means doc k Part.Instruction
     → unclosedIn r k open-name room Part.Instruction ≡ taken doc r open-name room (cutNext doc (k .from))
 instruction-open doc r open-name room k t z e m =
-    open-by doc r open-name room k z Part.Instruction (unclosedQuestion doc (at (k .from))) e
+    open-by doc r open-name room k Part.Instruction Shape.QuestionMark (unclosedQuestion doc (at (k .from))) question 1 1 e (instruction-looked doc k m) z
     (unclosed-is doc (k .from) (k .at) (k .right) (m .opener) z)
-    ∙ taken-open doc r open-name room (k .from) (piFound doc (k .from)) Shape.QuestionMark (unclosedQuestion doc (at (k .from)))
-    (pi-gives doc (k .from) .none .1 (nowhere doc (k .at) (PiEnd doc (k .from)) z (λ p h. h .within) (m .none)))
-    ∙ ap (taken doc r open-name room) (sym (question-cut doc (k .from) (m .first) (m .second)))
-
--- ---- a piece with its closer
-
-module _ (doc : List ℕ) (r : Reader) (open-name : Span) (room : Depth) where
-  taken-well : (shape : Shape) (from to : ℕ) (next : Phase) → check from (part doc from to) ≡ WellFormed
-      → taken doc r open-name room (whole shape from to next) ≡ emittedAs doc r open-name room shape (span from to) next
-  unfolding taken whole checked emitted
-  taken-well shape from to next e = ap (λ (u : Utf8). byUtf8 u (emittedAs doc r open-name room shape (span from to) next) (λ ill. stopped r Error.Encoding (at ill) (span from to))) e
-
-  taken-ill : (shape : Shape) (from to p : ℕ) (next : Phase) → check from (part doc from to) ≡ IllFormed p
-      → taken doc r open-name room (whole shape from to next) ≡ stopped r Error.Encoding (at p) (span from to)
-  unfolding taken whole checked emitted
-  taken-ill shape from to p next e = ap (λ (u : Utf8). byUtf8 u (emittedAs doc r open-name room shape (span from to) next) (λ ill. stopped r Error.Encoding (at ill) (span from to))) e
-
-  module _ (k : Known) (t : Tracks doc open-name k) (l : k .at < length doc) (g : getD doc (k .at) 0 ≡ gt) where
-    abbrev piece : Span
-    piece = span (k .from) (k .at + 1)
-
-    -- by whether its characters are whole
-    whole-is : (shape : Shape) (p : Part) → becomes r k piece Phase.InsideText open-name room p ≡ emittedAs doc r open-name room shape piece Phase.InsideText
-        → pick (eqb (k .letters .owed) 0) (becomes r k piece Phase.InsideText open-name room p) (stopped r Error.Encoding (at (k .letters .at)) piece)
-        ≡ taken doc r open-name room (whole shape (k .from) (k .at + 1) Phase.InsideText)
-    whole-is shape p e =
-        pick-cases (λ (s : Step). s ≡ taken doc r open-name room (whole shape (k .from) (k .at + 1) Phase.InsideText)) (eqb (k .letters .owed) 0) _ _
-        (λ f. e
-        ∙ sym (taken-well shape (k .from) (k .at + 1) Phase.InsideText
-        (spelt-well-more doc (k .from) (k .at) (k .letters) l (omega arith) (t .letters) (eqb-true (k .letters .owed) 0 f))))
-        (λ f. sym (taken-ill shape (k .from) (k .at + 1) (k .letters .at) Phase.InsideText
-        (spelt-ill-more doc (k .from) (k .at) (k .letters) l (omega arith) (t .letters) (eqb-false (k .letters .owed) 0 f))))
-
-    -- what is told where the piece ends with its `>`
-    closed-by : (shape : Shape) (p : Part) → k .part ≡ p
-        → becomes r k piece Phase.InsideText open-name room p ≡ emittedAs doc r open-name room shape piece Phase.InsideText
-        → wholeOf r k (closedPiece r k open-name room (getD doc (k .at) 0)) (behind (getD doc (k .at) 0)) open-name room
-        ≡ taken doc r open-name room (whole shape (k .from) (k .at + 1) Phase.InsideText)
-    unfolding wholeOf behind
-    closed-by shape p e f =
-        ap (λ (c : ℕ). wholeOf r k (closedPiece r k open-name room c) (behind c) open-name room) g
-        ∙ ap (λ (q : Part). pick (eqb (k .letters .owed) 0) (becomes r k piece Phase.InsideText open-name room q) (stopped r Error.Encoding (at (k .letters .at)) piece)) e
-        ∙ whole-is shape p f
-
--- the cut, where the end was found
-marked-at : (doc : List ℕ) (from p : ℕ) (found : MarksFound) (shape : Shape) (error : Error) → found ≡ MarksFound.At p
-    → cutMarked doc from found shape error ≡ whole shape from (p + 1) Phase.InsideText
-unfolding cutMarked
-marked-at doc from p found shape error e = rw e
 
 -- ---- comments
-
--- a test turned round
-turned : {A : Type 0} (m n : ℕ) (x y : A) → pick (ltb m n) x y ≡ pick (leb n m) y x
-turned m n x y =
-    elim (decLt m n) [
-      | yes h ↦ rw (lt-ltb m n h, lt-leb n m h)
-      | no h ↦ rw (le-ltb m n (omega arith), le-leb n m (omega arith))
-    ]
-
-inner-in : (from to front back : ℕ) → from + front + back ≤ to → inner (span from to) front back ≡ span (from + front) (to - back)
-unfolding inner
-inner-in from to front back h = rw (le-leb (from + front + back) to h)
 
 -- the first pair is found, since the closer has one
 pair-at : (doc : List ℕ) (from n pair : ℕ) → First (PairEnd doc (from + 4)) from n pair → CommentEnd doc from n → pairFound doc (from + 4) ≡ FirstFound.At pair
 pair-at doc from n pair f c =
     let far = c .after in
     let within = c .within in
-    let two : n - 2 ≡ n - 1 - 1 = omega arith in
     let last : PairEnd doc (from + 4) (n - 1) = record {
       after = omega arith;
       within = omega arith;
       second = c .marks 1 (omega arith) (omega arith);
-      first = sym (ap (λ (i : ℕ). getD doc i 0) two) ∙ c .marks 2 (omega arith) (omega arith);
+      first = byte-same doc (n - 1 - 1) (n - 2) (omega arith) ∙ c .marks 2 (omega arith) (omega arith);
     } in
     let before : pair < n = elim (decLt (n - 1) pair) [
       | yes h ↦ absurd (f .before (n - 1) (omega arith) h last)
@@ -467,6 +337,9 @@ module _ (doc : List ℕ) (r : Reader) (k : Known) where
   abbrev whole-piece : Span
   whole-piece = span (k .from) (k .at + 1)
 
+  abbrev checks : Bool
+  checks = r .settings .«check_comments»
+
   checked-comment : pairFound doc (k .from + 4) ≡ FirstFound.At (k .pair) → (content : Span) → content .from ≡ k .from + 4
       → pick (leb (k .pair) (content .to))
       (refused r Error.DoubleHyphenInComment (at (k .pair - 1)) whole-piece Phase.InsideText)
@@ -479,63 +352,37 @@ module _ (doc : List ℕ) (r : Reader) (k : Known) where
   comment-told : begins (drop (k .from) doc) commentOpener ≡ k .right → pairFound doc (k .from + 4) ≡ FirstFound.At (k .pair) → inner whole-piece 4 3 .from ≡ k .from + 4
       → commentOf r k whole-piece ≡ emitComment doc r whole-piece
   unfolding commentOf emitComment stop tell bangEvent
-  comment-told e f g = by (k .right) (begins (drop (k .from) doc) commentOpener) (r .settings .«check_comments») e
-    where
-      by : (x y c : Bool) → y ≡ x
-          → pick (not x) (stopped r Error.UnclosedComment (at (k .from)) whole-piece)
-          (pick (c && leb (k .pair) (inner whole-piece 4 3 .to))
-          (refused r Error.DoubleHyphenInComment (at (k .pair - 1)) whole-piece Phase.InsideText)
-          (tell r Kind.Comment whole-piece (inner whole-piece 4 3) 0 Phase.InsideText))
-          ≡ pick y
-          (pick c (checkedComment doc r whole-piece (inner whole-piece 4 3)) (bangEvent r Kind.Comment whole-piece (inner whole-piece 4 3)))
-          (stopped r Error.UnclosedComment (at (k .from)) whole-piece)
-      by true true true q = checked-comment f (inner whole-piece 4 3) g
-      by true true false q = refl
-      by true false c q = clash false (q) refl
-      by false true c q = clash true refl q
-      by false false c q = refl
-
--- two tests that say the same
-agree : (x y : Bool) → (y ≡ true → x ≡ true) → (y ≡ false → x ≡ false) → x ≡ y
-agree x true f g = f refl
-agree x false f g = g refl
-
-comment-right : (doc : List ℕ) (from n : ℕ) (right : Bool) → n ≤ length doc → from + 6 ≤ n → Right doc Part.Comment from n right → begins (drop from doc) commentOpener ≡ right
-comment-right doc from n right u h o =
-    agree (begins (drop from doc) commentOpener) right (λ e. begins-right doc commentOpener from n u (omega arith) (o .all e))
-    (λ e. let w = o .some e in begins-wrong doc commentOpener from (w .0) (w .1) (w .3))
+  comment-told e f g =
+      unless (k .right) (begins (drop (k .from) doc) commentOpener) _ _ e
+      ∙ ap (λ (s : Step). pick (begins (drop (k .from) doc) commentOpener) s (stopped r Error.UnclosedComment (at (k .from)) whole-piece))
+      (and-then checks (leb (k .pair) (inner whole-piece 4 3 .to)) _ _
+      ∙ ap (λ (s : Step). pick checks s (bangEvent r Kind.Comment whole-piece (inner whole-piece 4 3))) (checked-comment f (inner whole-piece 4 3) g))
 
 pub comment-closed : (doc : List ℕ) (r : Reader) (open-name : Span) (room : Depth) (k : Known) → Tracks doc open-name k → k .at < length doc
     → k .part ≡ Part.Comment → Means doc k Part.Comment → endsIn k (getD doc (k .at) 0) Part.Comment ≡ true
     → closedIn r k open-name room (getD doc (k .at) 0) Part.Comment ≡ taken doc r open-name room (cutNext doc (k .from))
 comment-closed doc r open-name room k t l e m x =
     let c = comment-ends doc open-name k t l m x in
-    closed-by doc r open-name room k t l (c .closes) Shape.Comment Part.Comment e
-    (comment-told doc r k (comment-right doc (k .from) (k .at) (k .right) (t .high) (c .after) (m .opener))
+    let far = c .after in
+    closed-by doc r open-name room k Part.Comment Shape.Comment Error.UnclosedComment hyphen 2 6 e (comment-looked doc k m) t c
+    (comment-told doc r k
+    (opener-is doc commentOpener (k .from) (k .at) (k .right) (t .high) (λ q. omega arith) (m .opener .all) (m .opener .some))
     (pair-at doc (k .from) (k .at) (k .pair) (t .pair) c)
-    (ap (λ (s : Span). s .from) (inner-in (k .from) (k .at + 1) 4 3 (omega (arith, c .after)))))
-    ∙ ap (taken doc r open-name room)
-    (sym (comment-cut doc (k .from) (m .first) (m .second) (m .third)
-    ∙ marked-at doc (k .from) (k .at) (commentFound doc (k .from)) Shape.Comment Error.UnclosedComment
-    (comment-gives doc (k .from) .found (k .at) .1 (record { has = c; before = m .none }))))
+    (ap (λ (s : Span). s .from) (inner-to (k .from) (k .at + 1) 4 3 (k .at - 2) (omega arith) (omega arith))))
 
 -- ---- CDATA
 
 -- the byte is none of the word
 abbrev without : List ℕ → ℕ → Bool
 without [] b = true
-without (w ∷ ws) b = pick (eqb w b) false (without ws b)
+without (w ∷ ws) b = not (eqb w b) && without ws b
 
 not-in : (word : List ℕ) (b j : ℕ) → without word b ≡ true → j < length word → getD word j 0 ≡ b → ⊥
 not-in [] b j e h q = omega arith
-not-in (w ∷ ws) b zero e h q = clash (pick (eqb w b) false (without ws b)) e (rw (eq-eqb w b q))
-not-in (w ∷ ws) b (suc j) e h q = not-in ws b j (by (eqb w b) e) (omega arith) q
-  where
-    by : (x : Bool) → pick x false (without ws b) ≡ true → without ws b ≡ true
-    by true f = clash false f refl
-    by false f = f
+not-in (w ∷ ws) b zero e h q = clash (eqb w b) (eq-eqb w b q) (not-true (eqb w b) (and-left (not (eqb w b)) (without ws b) e))
+not-in (w ∷ ws) b (suc j) e h q = not-in ws b j (and-right (not (eqb w b)) (without ws b) e) (omega arith) q
 
-module _ (doc : List ℕ) (from n : ℕ) (right : Bool) (u : n ≤ length doc) (h : from + 3 ≤ n) (c : CDataEnd doc from n) (o : Right doc Part.CData from n right) where
+module _ (doc : List ℕ) (from n : ℕ) (right : Bool) (h : from + 3 ≤ n) (c : CDataEnd doc from n) (o : Right doc Part.CData from n right) where
   -- the `]` at the end is no byte of the opener
   cdata-long : right ≡ true → from + 9 ≤ n
   cdata-long e =
@@ -546,63 +393,27 @@ module _ (doc : List ℕ) (from n : ℕ) (right : Bool) (u : n ≤ length doc) (
         | no l ↦ omega arith
       ]
 
-  cdata-right : begins (drop from doc) cdataOpener ≡ right
-  cdata-right =
-      agree (begins (drop from doc) cdataOpener) right (λ e. begins-right doc cdataOpener from n u (cdata-long e) (o .all e))
-      (λ e. let w = o .some e in begins-wrong doc cdataOpener from (w .0) (w .1) (w .3))
-
-module _ (doc : List ℕ) (r : Reader) (k : Known) where
-  cdata-told : (piece : Span) → begins (drop (piece .from) doc) cdataOpener ≡ k .right → cdataOf r k piece ≡ emitCData doc r piece
-  unfolding cdataOf emitCData stop tell bangEvent
-  cdata-told piece e = by (k .right) (begins (drop (piece .from) doc) cdataOpener) e
-    where
-      by : (x y : Bool) → y ≡ x
-          → pick (not x) (stopped r Error.UnclosedCData (at (piece .from)) piece) (told r (event Kind.CData piece (inner piece 9 3) 0) Phase.InsideText)
-          ≡ pick y (told r (event Kind.CData piece (inner piece 9 3) 0) Phase.InsideText) (stopped r Error.UnclosedCData (at (piece .from)) piece)
-      by true true q = refl
-      by true false q = clash false q refl
-      by false true q = clash true refl q
-      by false false q = refl
+cdata-told : (doc : List ℕ) (r : Reader) (k : Known) (piece : Span) → begins (drop (piece .from) doc) cdataOpener ≡ k .right
+    → cdataOf r k piece ≡ emitCData doc r piece
+unfolding cdataOf emitCData stop tell bangEvent
+cdata-told doc r k piece e = unless (k .right) (begins (drop (piece .from) doc) cdataOpener) _ _ e
 
 pub cdata-closed : (doc : List ℕ) (r : Reader) (open-name : Span) (room : Depth) (k : Known) → Tracks doc open-name k → k .at < length doc
     → k .part ≡ Part.CData → Means doc k Part.CData → endsIn k (getD doc (k .at) 0) Part.CData ≡ true
     → closedIn r k open-name room (getD doc (k .at) 0) Part.CData ≡ taken doc r open-name room (cutNext doc (k .from))
 cdata-closed doc r open-name room k t l e m x =
     let c = cdata-ends doc open-name k t l m x in
-    closed-by doc r open-name room k t l (c .closes) Shape.CData Part.CData e
-    (cdata-told doc r k (span (k .from) (k .at + 1)) (cdata-right doc (k .from) (k .at) (k .right) (t .high) (m .size) c (m .opener)))
-    ∙ ap (taken doc r open-name room)
-    (sym (cdata-cut doc (k .from) (m .first) (m .second) (m .third)
-    ∙ marked-at doc (k .from) (k .at) (cdataFound doc (k .from)) Shape.CData Error.UnclosedCData
-    (cdata-gives doc (k .from) .found (k .at) .1 (record { has = c; before = m .none }))))
+    closed-by doc r open-name room k Part.CData Shape.CData Error.UnclosedCData closeBracket 2 2 e (cdata-looked doc k m) t c
+    (cdata-told doc r k (span (k .from) (k .at + 1))
+    (opener-is doc cdataOpener (k .from) (k .at) (k .right) (t .high) (cdata-long doc (k .from) (k .at) (k .right) (m .size) c (m .opener)) (m .opener .all) (m .opener .some)))
 
 -- ---- processing instructions
 
 -- the target, where white space first stands
 name-low : (doc : List ℕ) (from n name : ℕ) → from + 2 ≤ n → getD doc from 0 ≡ lt → getD doc (from + 1) 0 ≡ question → First (White doc) from n name → from + 2 ≤ name
 name-low doc from n name h first second f =
-    let low = f .low in
-    elim (decLt name (from + 2)) [
-      | yes l ↦ clash (isWhite (getD doc name 0)) (f .here (omega arith)) (black l)
-      | no l ↦ omega arith
-    ]
-  where
-    is : (i j : ℕ) → i ≡ j → isWhite (getD doc i 0) ≡ isWhite (getD doc j 0)
-    is i j e = ap (λ (p : ℕ). isWhite (getD doc p 0)) e
-
-    black : name < from + 2 → isWhite (getD doc name 0) ≡ false
-    black l =
-        let low = f .low in
-        elim (decLt name (from + 1)) [
-          | yes u ↦ is name from (omega arith) ∙ ap isWhite first
-          | no u ↦ is name (from + 1) (omega arith) ∙ ap isWhite second
-        ]
-
-xml-black : (j : ℕ) → j < 3 → isWhite (getD xml j 0) ≡ false
-xml-black zero h = refl
-xml-black (suc zero) h = refl
-xml-black (suc (suc zero)) h = refl
-xml-black (suc (suc (suc j))) h = absurd (omega arith)
+    first-late (White doc) from n name (from + 2) f h
+    (λ j g l w. clash (isWhite (getD doc j 0)) w (of-two (λ (i : ℕ). isWhite (getD doc i 0) ≡ false) from j g l (ap isWhite first) (ap isWhite second)))
 
 module _ (doc : List ℕ) (from n : ℕ) (u : n < length doc) (h : from + 3 ≤ n) where
   -- what stands between `<?` and `?>`
@@ -613,7 +424,7 @@ module _ (doc : List ℕ) (from n : ℕ) (u : n < length doc) (h : from + 3 ≤ 
   content-long = part-length doc (from + 2) (n + 1 - 2) (omega arith) (omega arith)
 
   content-byte : (i j : ℕ) → j < length content → from + 2 + j ≡ i → getD content j 0 ≡ getD doc i 0
-  content-byte i j l e = part-byte doc (from + 2) (n + 1 - 2) j (omega arith) (omega (arith, content-long)) ∙ ap (λ (p : ℕ). getD doc p 0) e
+  content-byte i j l e = part-same doc (from + 2) (n + 1 - 2) j i (omega arith) (omega (arith, content-long)) (sym e)
 
   -- it is that of a declaration
   record Declared : Type 0 where
@@ -648,12 +459,12 @@ module _ (doc : List ℕ) (from n : ℕ) (u : n < length doc) (h : from + 3 ≤ 
       least-one (EndsAt isWhite content) (nameOf content) 3 (name-len-least content) (record {
         has = d .ends;
         before = λ j l. ⊎-elim (λ e. omega arith)
-            (λ e. clash (isWhite (getD content j 0)) (e .1) (ap isWhite (begins-byte content xml j (d .word) l) ∙ xml-black j l));
+            (λ e. clash (isWhite (getD content j 0)) (e .1) (ap isWhite (begins-byte content xml j (d .word) l) ∙ of-three (λ (i : ℕ). isWhite (getD xml i 0) ≡ false) 0 j (omega arith) l refl refl refl));
       })
 
   module _ (right : Bool) (first : getD doc from 0 ≡ lt) (second : getD doc (from + 1) 0 ≡ question) (c : PiEnd doc from n) (o : Right doc Part.Instruction from n right) where
     declared-byte : Declared → (j : ℕ) → j < 5 → getD doc (from + j) 0 ≡ getD declOpener j 0
-    declared-byte d zero l = let e : from + 0 ≡ from = omega arith in ap (λ (p : ℕ). getD doc p 0) e ∙ first
+    declared-byte d zero l = byte-same doc (from + 0) from (omega arith) ∙ first
     declared-byte d (suc zero) l = second
     declared-byte d (suc (suc j)) l =
         let long = declared-long d in
@@ -664,7 +475,7 @@ module _ (doc : List ℕ) (from n : ℕ) (u : n < length doc) (h : from + 3 ≤ 
         ⊎-elim
         (λ e. let last : from + 5 ≡ n - 1 = omega (arith, content-long) in
         or-second (isWhite (getD doc (from + 5) 0)) (eqb (getD doc (from + 5) 0) question)
-        (eq-eqb (getD doc (from + 5) 0) question (ap (λ (p : ℕ). getD doc p 0) last ∙ c .marks 1 (omega arith) (omega arith))))
+        (eq-eqb (getD doc (from + 5) 0) question (byte-same doc (from + 5) (n - 1) last ∙ c .marks 1 (omega arith) (omega arith))))
         (λ e. or-first (isWhite (getD doc (from + 5) 0)) (eqb (getD doc (from + 5) 0) question)
         (sym (ap isWhite (content-byte (from + 5) 3 (e .0) (omega arith))) ∙ e .1)) (d .ends)
 
@@ -690,7 +501,7 @@ module _ (doc : List ℕ) (from n : ℕ) (u : n < length doc) (h : from + 3 ≤ 
         (eqb-true (nameOf content) 3 (and-right right (eqb (nameOf content) 3) e))))
         (λ e. must-fail (isDecl content)
         (λ g. let d = decl-declared g in
-        clash (right && eqb (nameOf content) 3) (both-hold right (eqb (nameOf content) 3) (declared-right d) (eq-eqb (nameOf content) 3 (declared-name d))) e))
+        clash (right && eqb (nameOf content) 3) (and-both right (eqb (nameOf content) 3) (declared-right d) (eq-eqb (nameOf content) 3 (declared-name d))) e))
 
 -- a declaration has a name of 3 bytes
 module _ (r : Reader) (piece inside : Span) (right : Bool) where
@@ -707,10 +518,6 @@ module _ (r : Reader) (piece inside : Span) (right : Bool) where
       → pick (right && eqb n 3) (told r (instruction Kind.Decl n) Phase.InsideText) (told r (instruction Kind.PI n) Phase.InsideText)
       ≡ told r (pick d (instruction Kind.Decl 3) (instruction Kind.PI m)) Phase.InsideText
   event-is n m d e f = by-decl n (right && eqb n 3) (λ q. eqb-true n 3 (and-right right (eqb n 3) q)) ∙ sym (rw (f, e))
-
-both-picked : {A : Type 0} (t : Bool) (x y z : A) → (t ≡ false → y ≡ z) → pick t x y ≡ pick t x z
-both-picked true x y z f = refl
-both-picked false x y z f = f refl
 
 module _ (doc : List ℕ) (r : Reader) (open-name : Span) (k : Known) (t : Tracks doc open-name k) (l : k .at < length doc) (m : Instructed doc k)
     (c : PiEnd doc (k .from) (k .at)) where
@@ -736,17 +543,14 @@ module _ (doc : List ℕ) (r : Reader) (open-name : Span) (k : Known) (t : Track
   instruction-told : instructionOf r k closed ≡ emitQuestionMark doc r closed
   unfolding instructionOf emitQuestionMark stop
   instruction-told =
-      both-picked (ltb (size closed) 4) _ _ _
+      pick-else (ltb (size closed) 4) _ _ _
       (λ e. let far = ltb-false (size closed) 4 e in
-      subst Tells (sym (inner-in (k .from) (k .at + 1) 2 2 (omega arith))) (question-told (omega arith)))
+      subst Tells (sym (inner-to (k .from) (k .at + 1) 2 2 (k .at + 1 - 2) (omega arith) (omega arith))) (question-told (omega arith)))
 
 pub instruction-closed : (doc : List ℕ) (r : Reader) (open-name : Span) (room : Depth) (k : Known) → Tracks doc open-name k → k .at < length doc
     → k .part ≡ Part.Instruction → Means doc k Part.Instruction → endsIn k (getD doc (k .at) 0) Part.Instruction ≡ true
     → closedIn r k open-name room (getD doc (k .at) 0) Part.Instruction ≡ taken doc r open-name room (cutNext doc (k .from))
 instruction-closed doc r open-name room k t l e m x =
     let c = instruction-ends doc open-name k t l m x in
-    closed-by doc r open-name room k t l (c .closes) Shape.QuestionMark Part.Instruction e (instruction-told doc r open-name k t l m c)
-    ∙ ap (taken doc r open-name room)
-    (sym (question-cut doc (k .from) (m .first) (m .second)
-    ∙ marked-at doc (k .from) (k .at) (piFound doc (k .from)) Shape.QuestionMark (unclosedQuestion doc (at (k .from)))
-    (pi-gives doc (k .from) .found (k .at) .1 (record { has = c; before = m .none }))))
+    closed-by doc r open-name room k Part.Instruction Shape.QuestionMark (unclosedQuestion doc (at (k .from))) question 1 1 e (instruction-looked doc k m) t c
+    (instruction-told doc r open-name k t l m c)

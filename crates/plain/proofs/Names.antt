@@ -12,11 +12,13 @@ use Rattle.ground.specs.Part.{part}
 use Rattle.ground.specs.Equal.{same}
 use Rattle.ground.proofs.Choices.{pick-cases, clash, must-fail}
 use Rattle.ground.proofs.Equal.{same-uneven, same-is as same-lists}
-use Rattle.ground.proofs.Lists.{part-length, part-byte}
+use Rattle.ground.proofs.Lists.{part-length}
 use Rattle.state.specs.declared.place.Span.{Span}
 use Rattle.plain.specs.declared.known.Known.{Known}
 use Rattle.plain.specs.Known.{sizeOf, sameOf}
+use Rattle.plain.proofs.Bytes.{part-same}
 use Rattle.plain.proofs.First.{First}
+use Rattle.plain.proofs.Flags.{and-left, and-right}
 
 -- a byte behind `</`, at k, that is not the one of the open name which stands against it
 pub record Differs (doc : List ℕ) (last : Span) (from k : ℕ) : Type 0 where
@@ -25,10 +27,6 @@ pub record Differs (doc : List ℕ) (last : Span) (from k : ℕ) : Type 0 where
 
 -- ---- the test of a byte
 
-both-and : (t u : Bool) → (t && u) ≡ true → (t ≡ true) × (u ≡ true)
-both-and true u e = (refl, e)
-both-and false u e = clash false e refl
-
 -- what the code's test of a byte says
 pub same-true : (doc : List ℕ) (k : Known) (last : Span) → k .from ≤ k .at → sameOf doc k last (getD doc (k .at) 0) ≡ true
     → Differs doc last (k .from) (k .at) → ⊥
@@ -36,8 +34,10 @@ unfolding sameOf
 same-true doc k last h e d =
     let n = sizeOf k - 2 in
     let far : ltb (sizeOf k) 2 ≡ false = le-ltb (sizeOf k) 2 (omega (arith, d .behind)) in
-    let q = both-and (ltb (last .from + n) (last .to)) (eqb (getD doc (last .from + n) 0) (getD doc (k .at) 0)) (rw far at e) in
-    d .other (ltb-true (last .from + n) (last .to) (q .0)) (eqb-true (getD doc (last .from + n) 0) (getD doc (k .at) 0) (q .1))
+    let q = rw far at e in
+    let within = ltb (last .from + n) (last .to) in
+    let alike = eqb (getD doc (last .from + n) 0) (getD doc (k .at) 0) in
+    d .other (ltb-true (last .from + n) (last .to) (and-left within alike q)) (eqb-true (getD doc (last .from + n) 0) (getD doc (k .at) 0) (and-right within alike q))
 
 pub same-false : (doc : List ℕ) (k : Known) (last : Span) → k .from ≤ k .at → sameOf doc k last (getD doc (k .at) 0) ≡ false
     → Differs doc last (k .from) (k .at)
@@ -62,12 +62,6 @@ module _ (doc : List ℕ) (last : Span) (from i v to : ℕ) (f : First (Differs 
   name-long : length name ≡ to - (from + 2)
   name-long = part-length doc (from + 2) to h (omega arith)
 
-  open-byte : (j n : ℕ) → n < last .to - last .from → j ≡ last .from + n → getD open-name n 0 ≡ getD doc j 0
-  open-byte j n l e = part-byte doc (last .from) (last .to) n q l ∙ ap (λ (m : ℕ). getD doc m 0) (sym e)
-
-  name-byte : (j n : ℕ) → n < to - (from + 2) → j ≡ from + 2 + n → getD name n 0 ≡ getD doc j 0
-  name-byte j n l e = part-byte doc (from + 2) to n (omega arith) l ∙ ap (λ (m : ℕ). getD doc m 0) (sym e)
-
   module _ (e : to - (from + 2) ≡ last .to - last .from) where
     -- no byte before v differs
     alike : to ≤ v → open-name ≡ name
@@ -82,7 +76,9 @@ module _ (doc : List ℕ) (last : Span) (from i v to : ℕ) (f : First (Differs 
               behind = omega arith;
               other = λ l m.
                   eqb-false (getD open-name n 0) (getD name n 0) g
-                  (open-byte (last .from + (from + 2 + n - from - 2)) n (omega arith) (omega arith) ∙ m ∙ sym (name-byte (from + 2 + n) n u refl));
+                  (part-same doc (last .from) (last .to) n (last .from + (from + 2 + n - from - 2)) q (omega arith) (omega arith)
+                  ∙ m
+                  ∙ sym (part-same doc (from + 2) to n (from + 2 + n) (omega arith) u refl));
             }))
 
     -- the byte at v does
@@ -91,9 +87,9 @@ module _ (doc : List ℕ) (last : Span) (from i v to : ℕ) (f : First (Differs 
         let d = f .here (omega arith) in
         let back = d .behind in
         d .other (omega arith)
-        (sym (open-byte (last .from + (v - from - 2)) (v - from - 2) (omega arith) refl)
+        (sym (part-same doc (last .from) (last .to) (v - from - 2) (last .from + (v - from - 2)) q (omega arith) refl)
         ∙ ap (λ (bs : List ℕ). getD bs (v - from - 2) 0) g
-        ∙ name-byte v (v - from - 2) (omega arith) (omega arith))
+        ∙ part-same doc (from + 2) to (v - from - 2) v (omega arith) (omega arith) (omega arith))
 
   by-tests : (x y : Bool) → eqb (to - (from + 2)) (last .to - last .from) ≡ x → leb to v ≡ y → same open-name name ≡ (x && y)
   by-tests true true e g = same-lists open-name name .1 (alike (eqb-true (to - (from + 2)) (last .to - last .from) e) (leb-true to v g))

@@ -1,15 +1,10 @@
 -- The last arm of a match, which has all cases that no other has: what the definition says of each of them. Assumes nothing.
 use Prim.Native.Nat.{ℕ}
 use mathlib.Core.Path.{_≡_, refl}
-use mathlib.Core.List.{List, [], _∷_}
-use mathlib.Core.Bool.{Bool, true, false}
-use mathlib.Core.Logic.{_⊎_, ⊎-elim}
-use lib.Dec.{eqb}
+use mathlib.Core.List.{[], _∷_}
+use mathlib.Core.Bool.{true, false}
 use denote.Enum.Declared.{tagOf}
-use types.Run.{OneOf}
-use borrow.Author.Tests.{eq-eqb}
-use Rattle.ground.specs.Choose.{pick}
-use Rattle.ground.proofs.Choices.{clash}
+use types.Run.{OneOf, miss}
 use Rattle.state.specs.declared.place.Depth.{Depth}
 use Rattle.state.specs.declared.place.Span.{Span}
 use Rattle.state.specs.declared.run.Phase.{Phase}
@@ -21,31 +16,11 @@ use Rattle.plain.specs.Known.{nextPart, opens}
 use Rattle.plain.specs.Told.{isDone, isText, becomes, openingOf, inTag, closer, noCloser, stop, read, unclosedIn, wholeOf, closedPiece, behind, closedIn}
 use Rattle.plain.proofs.known.Part.{the-type as parts}
 
--- no key of the list is the number
-abbrev missing : List ℕ → ℕ → Bool
-missing [] x = true
-missing (k ∷ ks) x = pick (eqb x k) false (missing ks x)
-
-not-first : (k x : ℕ) (r : Bool) → pick (eqb x k) false r ≡ true → x ≡ k → ⊥
-not-first k x r e h = clash (pick (eqb x k) false r) e (rw (eq-eqb x k h))
-
-not-later : (k x : ℕ) (r : Bool) → pick (eqb x k) false r ≡ true → r ≡ true
-not-later k x r e = by (eqb x k) e
-  where
-    by : (t : Bool) → pick t false r ≡ true → r ≡ true
-    by true e = clash false e refl
-    by false e = e
-
-pub none-of : (ks : List ℕ) (x : ℕ) → missing ks x ≡ true → OneOf ks x → ⊥
-none-of [] x e w = w
-none-of (k ∷ []) x e w = not-first k x true e w
-none-of (k ∷ k′ ∷ ks) x e w = ⊎-elim (not-first k x _ e) (none-of (k′ ∷ ks) x (not-later k x _ e)) w
-
 -- ---- phases
 
 pub not-text : (p : Phase) → OneOf (0 ∷ 2 ∷ 3 ∷ 4 ∷ 5 ∷ []) (tagOf phases p) → isText p ≡ false
 not-text Phase.Init w = refl
-not-text Phase.InsideText w = absurd (none-of (0 ∷ 2 ∷ 3 ∷ 4 ∷ 5 ∷ []) 1 refl w)
+not-text Phase.InsideText w = absurd (miss (0 ∷ 2 ∷ 3 ∷ 4 ∷ 5 ∷ []) 1 tt w)
 not-text Phase.InsideMarkup w = refl
 not-text Phase.InsideRef w = refl
 not-text Phase.InsideEmpty w = refl
@@ -57,16 +32,16 @@ not-done Phase.InsideText w = refl
 not-done Phase.InsideMarkup w = refl
 not-done Phase.InsideRef w = refl
 not-done Phase.InsideEmpty w = refl
-not-done Phase.Done w = absurd (none-of (0 ∷ 1 ∷ 2 ∷ 3 ∷ 4 ∷ []) 5 refl w)
+not-done Phase.Done w = absurd (miss (0 ∷ 1 ∷ 2 ∷ 3 ∷ 4 ∷ []) 5 tt w)
 
 -- ---- parts
 
 pub stays : (p : Part) (b : ℕ) → OneOf (1 ∷ 2 ∷ 5 ∷ 6 ∷ 7 ∷ 8 ∷ 9 ∷ []) (tagOf parts p) → p ≡ nextPart p b
-stays Part.Nothing b w = absurd (none-of (1 ∷ 2 ∷ 5 ∷ 6 ∷ 7 ∷ 8 ∷ 9 ∷ []) 0 refl w)
+stays Part.Nothing b w = absurd (miss (1 ∷ 2 ∷ 5 ∷ 6 ∷ 7 ∷ 8 ∷ 9 ∷ []) 0 tt w)
 stays Part.Text b w = refl
 stays Part.Reference b w = refl
-stays Part.Opened b w = absurd (none-of (1 ∷ 2 ∷ 5 ∷ 6 ∷ 7 ∷ 8 ∷ 9 ∷ []) 3 refl w)
-stays Part.Bang b w = absurd (none-of (1 ∷ 2 ∷ 5 ∷ 6 ∷ 7 ∷ 8 ∷ 9 ∷ []) 4 refl w)
+stays Part.Opened b w = absurd (miss (1 ∷ 2 ∷ 5 ∷ 6 ∷ 7 ∷ 8 ∷ 9 ∷ []) 3 tt w)
+stays Part.Bang b w = absurd (miss (1 ∷ 2 ∷ 5 ∷ 6 ∷ 7 ∷ 8 ∷ 9 ∷ []) 4 tt w)
 stays Part.Comment b w = refl
 stays Part.CData b w = refl
 stays Part.Instruction b w = refl
@@ -79,9 +54,9 @@ no-opener Part.Text k b w = refl
 no-opener Part.Reference k b w = refl
 no-opener Part.Opened k b w = refl
 no-opener Part.Bang k b w = refl
-no-opener Part.Comment k b w = absurd (none-of (0 ∷ 1 ∷ 2 ∷ 3 ∷ 4 ∷ 8 ∷ 9 ∷ []) 5 refl w)
-no-opener Part.CData k b w = absurd (none-of (0 ∷ 1 ∷ 2 ∷ 3 ∷ 4 ∷ 8 ∷ 9 ∷ []) 6 refl w)
-no-opener Part.Instruction k b w = absurd (none-of (0 ∷ 1 ∷ 2 ∷ 3 ∷ 4 ∷ 8 ∷ 9 ∷ []) 7 refl w)
+no-opener Part.Comment k b w = absurd (miss (0 ∷ 1 ∷ 2 ∷ 3 ∷ 4 ∷ 8 ∷ 9 ∷ []) 5 tt w)
+no-opener Part.CData k b w = absurd (miss (0 ∷ 1 ∷ 2 ∷ 3 ∷ 4 ∷ 8 ∷ 9 ∷ []) 6 tt w)
+no-opener Part.Instruction k b w = absurd (miss (0 ∷ 1 ∷ 2 ∷ 3 ∷ 4 ∷ 8 ∷ 9 ∷ []) 7 tt w)
 no-opener Part.Closing k b w = refl
 no-opener Part.Opening k b w = refl
 
@@ -91,31 +66,31 @@ in-tag k Part.Text w = refl
 in-tag k Part.Reference w = refl
 in-tag k Part.Opened w = refl
 in-tag k Part.Bang w = refl
-in-tag k Part.Comment w = absurd (none-of (0 ∷ 1 ∷ 2 ∷ 3 ∷ 4 ∷ 8 ∷ 9 ∷ []) 5 refl w)
-in-tag k Part.CData w = absurd (none-of (0 ∷ 1 ∷ 2 ∷ 3 ∷ 4 ∷ 8 ∷ 9 ∷ []) 6 refl w)
-in-tag k Part.Instruction w = absurd (none-of (0 ∷ 1 ∷ 2 ∷ 3 ∷ 4 ∷ 8 ∷ 9 ∷ []) 7 refl w)
+in-tag k Part.Comment w = absurd (miss (0 ∷ 1 ∷ 2 ∷ 3 ∷ 4 ∷ 8 ∷ 9 ∷ []) 5 tt w)
+in-tag k Part.CData w = absurd (miss (0 ∷ 1 ∷ 2 ∷ 3 ∷ 4 ∷ 8 ∷ 9 ∷ []) 6 tt w)
+in-tag k Part.Instruction w = absurd (miss (0 ∷ 1 ∷ 2 ∷ 3 ∷ 4 ∷ 8 ∷ 9 ∷ []) 7 tt w)
 in-tag k Part.Closing w = refl
 in-tag k Part.Opening w = refl
 
 module _ (r : Reader) (k : Known) (last : Span) (room : Depth) where
   pub becomes-tag : (piece : Span) (next : Phase) (p : Part) → OneOf (3 ∷ 4 ∷ 9 ∷ []) (tagOf parts p) → becomes r k piece next last room p ≡ openingOf r k piece room
-  becomes-tag piece next Part.Nothing w = absurd (none-of (3 ∷ 4 ∷ 9 ∷ []) 0 refl w)
-  becomes-tag piece next Part.Text w = absurd (none-of (3 ∷ 4 ∷ 9 ∷ []) 1 refl w)
-  becomes-tag piece next Part.Reference w = absurd (none-of (3 ∷ 4 ∷ 9 ∷ []) 2 refl w)
+  becomes-tag piece next Part.Nothing w = absurd (miss (3 ∷ 4 ∷ 9 ∷ []) 0 tt w)
+  becomes-tag piece next Part.Text w = absurd (miss (3 ∷ 4 ∷ 9 ∷ []) 1 tt w)
+  becomes-tag piece next Part.Reference w = absurd (miss (3 ∷ 4 ∷ 9 ∷ []) 2 tt w)
   becomes-tag piece next Part.Opened w = refl
   becomes-tag piece next Part.Bang w = refl
-  becomes-tag piece next Part.Comment w = absurd (none-of (3 ∷ 4 ∷ 9 ∷ []) 5 refl w)
-  becomes-tag piece next Part.CData w = absurd (none-of (3 ∷ 4 ∷ 9 ∷ []) 6 refl w)
-  becomes-tag piece next Part.Instruction w = absurd (none-of (3 ∷ 4 ∷ 9 ∷ []) 7 refl w)
-  becomes-tag piece next Part.Closing w = absurd (none-of (3 ∷ 4 ∷ 9 ∷ []) 8 refl w)
+  becomes-tag piece next Part.Comment w = absurd (miss (3 ∷ 4 ∷ 9 ∷ []) 5 tt w)
+  becomes-tag piece next Part.CData w = absurd (miss (3 ∷ 4 ∷ 9 ∷ []) 6 tt w)
+  becomes-tag piece next Part.Instruction w = absurd (miss (3 ∷ 4 ∷ 9 ∷ []) 7 tt w)
+  becomes-tag piece next Part.Closing w = absurd (miss (3 ∷ 4 ∷ 9 ∷ []) 8 tt w)
   becomes-tag piece next Part.Opening w = refl
 
   pub no-end : (p : Part) → OneOf (5 ∷ 6 ∷ 7 ∷ 8 ∷ 9 ∷ []) (tagOf parts p) → unclosedIn r k last room p ≡ stop r (noCloser k) (read r k last room)
-  no-end Part.Nothing w = absurd (none-of (5 ∷ 6 ∷ 7 ∷ 8 ∷ 9 ∷ []) 0 refl w)
-  no-end Part.Text w = absurd (none-of (5 ∷ 6 ∷ 7 ∷ 8 ∷ 9 ∷ []) 1 refl w)
-  no-end Part.Reference w = absurd (none-of (5 ∷ 6 ∷ 7 ∷ 8 ∷ 9 ∷ []) 2 refl w)
-  no-end Part.Opened w = absurd (none-of (5 ∷ 6 ∷ 7 ∷ 8 ∷ 9 ∷ []) 3 refl w)
-  no-end Part.Bang w = absurd (none-of (5 ∷ 6 ∷ 7 ∷ 8 ∷ 9 ∷ []) 4 refl w)
+  no-end Part.Nothing w = absurd (miss (5 ∷ 6 ∷ 7 ∷ 8 ∷ 9 ∷ []) 0 tt w)
+  no-end Part.Text w = absurd (miss (5 ∷ 6 ∷ 7 ∷ 8 ∷ 9 ∷ []) 1 tt w)
+  no-end Part.Reference w = absurd (miss (5 ∷ 6 ∷ 7 ∷ 8 ∷ 9 ∷ []) 2 tt w)
+  no-end Part.Opened w = absurd (miss (5 ∷ 6 ∷ 7 ∷ 8 ∷ 9 ∷ []) 3 tt w)
+  no-end Part.Bang w = absurd (miss (5 ∷ 6 ∷ 7 ∷ 8 ∷ 9 ∷ []) 4 tt w)
   no-end Part.Comment w = refl
   no-end Part.CData w = refl
   no-end Part.Instruction w = refl
@@ -127,7 +102,7 @@ module _ (r : Reader) (k : Known) (last : Span) (room : Depth) where
   ended b Part.Text w = refl
   ended b Part.Reference w = refl
   ended b Part.Opened w = refl
-  ended b Part.Bang w = absurd (none-of (0 ∷ 1 ∷ 2 ∷ 3 ∷ 5 ∷ 6 ∷ 7 ∷ 8 ∷ 9 ∷ []) 4 refl w)
+  ended b Part.Bang w = absurd (miss (0 ∷ 1 ∷ 2 ∷ 3 ∷ 5 ∷ 6 ∷ 7 ∷ 8 ∷ 9 ∷ []) 4 tt w)
   ended b Part.Comment w = refl
   ended b Part.CData w = refl
   ended b Part.Instruction w = refl

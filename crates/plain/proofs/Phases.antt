@@ -2,15 +2,14 @@
 use Prim.Native.Nat.{ℕ, _<_}
 use mathlib.Core.Path.{_≡_, refl, sym, ap, _∙_}
 use mathlib.Core.List.{List, [], _∷_}
-use mathlib.Core.Bool.{Bool, true, false, _&&_}
+use mathlib.Core.Bool.{Bool, true, false}
 use native.Mathlib.Omega.{arith}
 use lib.ListN.{length, getD}
 use lib.Dec.{eqb}
 use denote.Enum.Declared.{tagOf}
-use types.Run.{OneOf}
+use types.Run.{OneOf, miss}
 use borrow.Author.Tests.{eqb-true}
 use Rattle.ground.specs.Bytes.{amp, lt}
-use Rattle.ground.specs.Choose.{pick}
 use Rattle.ground.proofs.Choices.{both, clash}
 use Rattle.ground.proofs.Lists.{stands-in}
 use Rattle.white.specs.White.{isWhite}
@@ -19,16 +18,16 @@ use Rattle.state.specs.declared.place.Span.{Span}
 use Rattle.state.specs.declared.config.Config.{Config}
 use Rattle.state.specs.declared.run.Phase.{Phase}
 use Rattle.state.specs.declared.run.Reader.{Reader}
-use Rattle.state.specs.declared.run.Step.{Step}
 use Rattle.state.proofs.run.Phase.{the-type as phases}
-use Rattle.reader.specs.Cut.{cutMarkup, cutNext, cutRef}
+use Rattle.reader.specs.Cut.{cutNext}
 use Rattle.reader.specs.Names.{latest}
 use Rattle.reader.specs.Sound.{inPlace, inPlaceIn, sound}
-use Rattle.reader.specs.Step.{begin, skipped, stepText, taken, stepIn, stepPhase}
+use Rattle.reader.specs.Step.{skipped, stepText, taken, stepIn, stepPhase}
 use Rattle.reader.proofs.States.{sound-true}
 use Rattle.plain.specs.Asked.{Placed, Readable, readFrom}
+use Rattle.plain.proofs.Cuts.{markup-cut, ref-cut}
+use Rattle.plain.proofs.Flags.{and-none}
 use Rattle.plain.proofs.Loop.{skip-none}
-use Rattle.plain.proofs.Parts.{none-of}
 
 -- ---- from a sound state to what is asked
 
@@ -62,19 +61,7 @@ module _ (doc : List ℕ) (r : Reader) (open-name : Span) (ok : Placed doc r ope
 module _ (doc : List ℕ) (r : Reader) (open-name : Span) (room : Depth) where
   -- white space is skipped, and there is none
   dark : (c : Config) (from k : ℕ) → getD doc from 0 ≡ k → isWhite k ≡ false → from < length doc → skipped doc c from ≡ from
-  dark c from k e f l = skip-none doc c from l (none (c .«trim_text_start») (isWhite (getD doc from 0)) (ap isWhite e ∙ f))
-    where
-      none : (t w : Bool) → w ≡ false → (t && w) ≡ false
-      none true w g = g
-      none false w g = refl
-
-  markup-cut : (from : ℕ) → getD doc from 0 ≡ lt → cutNext doc from ≡ cutMarkup doc from
-  unfolding cutNext
-  markup-cut from e = rw e
-
-  ref-cut : (from : ℕ) → getD doc from 0 ≡ amp → cutNext doc from ≡ cutRef doc from
-  unfolding cutNext
-  ref-cut from e = rw e
+  dark c from k e f l = skip-none doc c from l (and-none (c .«trim_text_start») (isWhite (getD doc from 0)) (ap isWhite e ∙ f))
 
   text-at : (from : ℕ) → skipped doc (r .settings) from ≡ from → stepText doc r open-name room from ≡ taken doc r open-name room (cutNext doc from)
   unfolding stepText
@@ -85,16 +72,16 @@ module _ (doc : List ℕ) (r : Reader) (open-name : Span) (room : Depth) where
   read-later = refl
 
   later-in : (p : Phase) → inPlaceIn doc r p ≡ true → OneOf (1 ∷ 2 ∷ 3 ∷ []) (tagOf phases p) → readFrom doc r open-name room false ≡ stepIn doc r open-name room p
-  later-in Phase.Init i w = absurd (none-of (1 ∷ 2 ∷ 3 ∷ []) 0 refl w)
+  later-in Phase.Init i w = absurd (miss (1 ∷ 2 ∷ 3 ∷ []) 0 tt w)
   later-in Phase.InsideText i w = read-later
   later-in Phase.InsideMarkup i w =
       let e = eqb-true (getD doc (r .position .0) 0) lt i in
-      read-later ∙ text-at (r .position .0) (dark (r .settings) (r .position .0) lt e refl (stands-in doc (r .position .0) lt e (omega arith))) ∙ ap (taken doc r open-name room) (markup-cut (r .position .0) e)
+      read-later ∙ text-at (r .position .0) (dark (r .settings) (r .position .0) lt e refl (stands-in doc (r .position .0) lt e (omega arith))) ∙ ap (taken doc r open-name room) (markup-cut doc (r .position .0) e)
   later-in Phase.InsideRef i w =
       let e = eqb-true (getD doc (r .position .0) 0) amp i in
-      read-later ∙ text-at (r .position .0) (dark (r .settings) (r .position .0) amp e refl (stands-in doc (r .position .0) amp e (omega arith))) ∙ ap (taken doc r open-name room) (ref-cut (r .position .0) e)
-  later-in Phase.InsideEmpty i w = absurd (none-of (1 ∷ 2 ∷ 3 ∷ []) 4 refl w)
-  later-in Phase.Done i w = absurd (none-of (1 ∷ 2 ∷ 3 ∷ []) 5 refl w)
+      read-later ∙ text-at (r .position .0) (dark (r .settings) (r .position .0) amp e refl (stands-in doc (r .position .0) amp e (omega arith))) ∙ ap (taken doc r open-name room) (ref-cut doc (r .position .0) e)
+  later-in Phase.InsideEmpty i w = absurd (miss (1 ∷ 2 ∷ 3 ∷ []) 4 tt w)
+  later-in Phase.Done i w = absurd (miss (1 ∷ 2 ∷ 3 ∷ []) 5 tt w)
 
   pub reads-later : Placed doc r open-name → OneOf (1 ∷ 2 ∷ 3 ∷ []) (tagOf phases (r .phase)) → readFrom doc r open-name room false ≡ stepPhase doc r open-name room
   unfolding stepPhase inPlace

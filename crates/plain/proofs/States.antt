@@ -1,6 +1,6 @@
 -- The test of a state as the code of this crate makes it. Assumes nothing.
 use Prim.Native.Nat.{ℕ, _*_, _≤_}
-use mathlib.Core.Path.{_≡_, refl, sym, ap, _∙_}
+use mathlib.Core.Path.{_≡_, sym, ap, _∙_}
 use mathlib.Core.List.{List}
 use mathlib.Core.Bool.{Bool, true, false, _&&_}
 use lib.ListN.{length}
@@ -8,6 +8,7 @@ use lib.Dec.{eqb, leb}
 use borrow.Author.Needs.{needs}
 use borrow.Author.Tests.{leb-true}
 use Rattle.ground.specs.Choose.{pick}
+use Rattle.ground.proofs.Choices.{pick-bool}
 use Rattle.state.specs.declared.place.Depth.{Depth}
 use Rattle.state.specs.declared.place.Span.{Span}
 use Rattle.state.specs.declared.run.Reader.{Reader}
@@ -16,20 +17,14 @@ use Rattle.state.specs.Place.{depthOf}
 use Rattle.state.proofs.Room.{told-slots}
 use Rattle.reader.specs.Names.{latest}
 use Rattle.reader.specs.Sound.{inPlace, sound}
-use Rattle.plain.proofs.Flags.{and-right}
+use Rattle.plain.proofs.Flags.{and-right, and-then}
 
--- four tests joined, and chosen one after the other
+-- tests joined, and asked one after the other
+three : (a b c t : Bool) → pick ((a && b) && c) t false ≡ pick a (pick b (pick c t false) false) false
+three a b c t = and-then (a && b) c t false ∙ and-then a b (pick c t false) false
+
 four : (a b c d t : Bool) → pick (((a && b) && c) && d) t false ≡ pick a (pick b (pick c (pick d t false) false) false) false
-four true true true d t = refl
-four true true false d t = refl
-four true false c d t = refl
-four false b c d t = refl
-
-three : (a b c : Bool) → ((a && b) && c) ≡ pick a (pick b (pick c true false) false) false
-three true true true = refl
-three true true false = refl
-three true false c = refl
-three false b c = refl
+four a b c d t = and-then ((a && b) && c) d t false ∙ three a b c (pick d t false)
 
 module _ (doc stack : List ℕ) (r : Reader) (k : Depth) (asked : k ≡ depthOf (capacity (length stack))) where
   abbrev fits : Bool
@@ -55,6 +50,9 @@ module _ (doc stack : List ℕ) (r : Reader) (k : Depth) (asked : k ≡ depthOf 
     pub fit : (last : Span) (t : Bool) → last ≡ latest stack (r .depth .0) → t ≡ inPlace doc r
         → ((leb (last .from) (last .to) && leb (last .to) (r .position .0)) && t) ≡ sound doc stack r
     unfolding rest
-    fit last t f g = three (leb (last .from) (last .to)) (leb (last .to) (r .position .0)) t ∙ rw (f, g) (sym (ap (λ (x : Bool). pick x rest false) e) ∙ whole)
+    fit last t f g =
+        sym (pick-bool ((leb (last .from) (last .to) && leb (last .to) (r .position .0)) && t))
+        ∙ three (leb (last .from) (last .to)) (leb (last .to) (r .position .0)) t true
+        ∙ rw (f, g) (sym (ap (λ (x : Bool). pick x rest false) e) ∙ whole)
 
 pub ruleset states = (needs, room-for, fit, not-fit)

@@ -8,22 +8,20 @@ use native.Mathlib.Omega.{arith}
 use native.Mathlib.Decide.{decLt}
 use lib.ListN.{length, getD}
 use lib.Dec.{eqb, leb}
-use borrow.Author.Tests.{eq-eqb, ne-eqb, eqb-true, eqb-false, lt-leb, le-leb, lt-ltb, le-ltb}
+use borrow.Author.Tests.{eq-eqb, ne-eqb, eqb-true, eqb-false, lt-ltb, le-ltb}
 use Rattle.ground.specs.Choose.{pick}
-use Rattle.ground.specs.Bytes.{apos, bang, gt, lt, question, quot, slash}
+use Rattle.ground.specs.Bytes.{apos, gt, lt, quot, slash}
 use Rattle.ground.specs.Part.{part}
 use Rattle.ground.specs.Equal.{same}
-use Rattle.ground.proofs.Choices.{pick-cases, clash}
+use Rattle.ground.proofs.Choices.{clash}
 use Rattle.ground.proofs.Lists.{stands-in}
 use Rattle.white.specs.White.{isWhite, kept, nameLen as whiteLen}
-use Rattle.utf8.specs.Utf8.{check, byUtf8}
-use Rattle.utf8.specs.declared.Utf8.{Utf8}
 use Rattle.parser.specs.Machine.{go, scanAt}
 use Rattle.parser.specs.Element.{elementStep, elementAnswer, elementFound, quoteOf, IsQuote}
 use Rattle.parser.specs.declared.element.ElementState.{ElementState}
 use Rattle.parser.specs.declared.element.Found.{Found as TagFound}
-use Rattle.parser.proofs.Machine.{scan-end, scan-halt, scan-more}
-use Rattle.parser.proofs.Turns.{step-halt, step-quote, step-plain, step-close, step-within}
+use Rattle.parser.proofs.Machine.{scan-end, scan-more}
+use Rattle.parser.proofs.Turns.{step-quote, step-plain, step-close, step-within, end-found}
 use Rattle.state.specs.declared.place.Depth.{Depth}
 use Rattle.state.specs.declared.place.Span.{Span}
 use Rattle.state.specs.declared.config.Config.{Config}
@@ -32,23 +30,23 @@ use Rattle.state.specs.declared.answer.Event.{Event}
 use Rattle.state.specs.declared.answer.Error.{Error}
 use Rattle.state.specs.declared.run.Phase.{Phase}
 use Rattle.state.specs.declared.run.Reader.{Reader}
-use Rattle.state.specs.declared.run.Step.{Step}
 use Rattle.state.specs.Place.{at, span, size, fewer, further, inner}
-use Rattle.state.specs.Make.{withDepth, event, told, refused, stopped}
+use Rattle.state.specs.Make.{withDepth, event, told, refused}
 use Rattle.emit.specs.End.{closingName, endEvent, unmatched, differs, matched, emitEnd}
 use Rattle.emit.specs.Start.{slashed as endsSlashed, tag, opening, emitStart}
 use Rattle.reader.specs.declared.piece.Shape.{Shape}
-use Rattle.reader.specs.declared.piece.Piece.{Piece}
-use Rattle.reader.specs.Cut.{unclosedTag, cutTag, cutMarkup, cutNext, whole, stop as stopCut}
-use Rattle.reader.specs.Step.{taken, checked, emitted, emittedAs}
+use Rattle.reader.specs.Cut.{unclosedTag, cutTag, cutNext, stop as stopCut}
+use Rattle.reader.specs.Step.{taken}
 use Rattle.plain.specs.declared.known.Part.{Part}
 use Rattle.plain.specs.declared.known.Known.{Known}
 use Rattle.plain.specs.Known.{nextQuote, nameLen, endsIn}
-use Rattle.plain.specs.Told.{tell, stop, inTag, closer, noCloser, unclosedIn, openingOf, closingOf, becomes, wholeOf, behind, closedPiece, closedIn}
-use Rattle.plain.proofs.First.{White, name-is}
-use Rattle.plain.proofs.Flags.{and-left, and-right}
+use Rattle.plain.specs.Told.{tell, stop, inTag, unclosedIn, openingOf, closingOf, closedIn}
+use Rattle.plain.proofs.Bytes.{byte-same}
+use Rattle.plain.proofs.Checked.{inner-to, stop-is, open-is, closed-is}
+use Rattle.plain.proofs.Cuts.{lone-cut, end-cut, start-cut, tag-to, tag-open}
+use Rattle.plain.proofs.First.{White, first-late, name-is}
+use Rattle.plain.proofs.Flags.{and-left, and-right, turned}
 use Rattle.plain.proofs.Kept.{kept-is}
-use Rattle.plain.proofs.Letters.{spelt-well-more, spelt-ill-more}
 use Rattle.plain.proofs.Means.{quoted, Means, Tagged}
 use Rattle.plain.proofs.Names.{same-is}
 use Rattle.plain.proofs.Tracks.{Tracks}
@@ -134,31 +132,9 @@ pub tag-first : (doc : List ℕ) (from : ℕ) → getD doc from 0 ≡ lt → ele
 tag-first doc from e =
     ap elementAnswer (scan-more elementStep ElementState.Outside doc from ElementState.Outside (stands-in doc from lt e (omega arith)) (rw e))
 
--- ---- what is cut off
-
-module _ (doc : List ℕ) (from : ℕ) (e : getD doc from 0 ≡ lt) where
-  cut-lone : length doc ≤ from + 1 → cutNext doc from ≡ stopCut Error.UnclosedTag from from
-  unfolding cutNext cutMarkup
-  cut-lone h = rw (e, le-leb (length doc) (from + 1) h)
-
-  cut-start : from + 1 < length doc → (getD doc (from + 1) 0 ≡ bang → ⊥) → (getD doc (from + 1) 0 ≡ question → ⊥) → (getD doc (from + 1) 0 ≡ slash → ⊥)
-      → cutNext doc from ≡ cutTag doc from Shape.Start
-  unfolding cutNext cutMarkup
-  cut-start h n m o =
-      rw (
-        e,
-        lt-leb (length doc) (from + 1) h,
-        ne-eqb (getD doc (from + 1) 0) bang n,
-        ne-eqb (getD doc (from + 1) 0) question m,
-        ne-eqb (getD doc (from + 1) 0) slash o,
-      )
-
-  cut-end : getD doc (from + 1) 0 ≡ slash → cutNext doc from ≡ cutTag doc from Shape.End
-  unfolding cutNext cutMarkup
-  cut-end s = rw (e, lt-leb (length doc) (from + 1) (stands-in doc (from + 1) slash s (omega arith)), s)
-
 -- ---- the document ends
 
+-- what is unclosed, by the quote that is open
 in-tag-none : unclosedTag (TagFound.Open (quoted 0)) ≡ inTag 0
 unfolding unclosedTag inTag
 in-tag-none = refl
@@ -170,193 +146,130 @@ in-tag-quote q h = ⊎-elim (λ e. rw e) (λ e. rw e) h
 in-tag-is : (q : ℕ) → (q ≡ 0) ⊎ IsQuote q → unclosedTag (TagFound.Open (quoted q)) ≡ inTag q
 in-tag-is q w = ⊎-elim (λ e. rw e in-tag-none) (in-tag-quote q) w
 
-no-closer : (k : Known) (p : Part) → k .part ≡ p → noCloser k ≡ closer k p
-unfolding noCloser
-no-closer k p e = ap (closer k) e
-
-module _ (doc : List ℕ) (r : Reader) (open-name : Span) (room : Depth) where
-  lone-taken : (from : ℕ) → stop r Error.UnclosedTag (span from from) ≡ taken doc r open-name room (stopCut Error.UnclosedTag from from)
-  unfolding stop stopCut taken
-  lone-taken from = refl
-
-  open-taken : (from : ℕ) (shape : Shape) (s : ElementState) → elementFound doc from ≡ TagFound.Open s
-      → stop r (unclosedTag (TagFound.Open s)) (span from (length doc)) ≡ taken doc r open-name room (cutTag doc from shape)
-  unfolding stop stopCut taken cutTag
-  open-taken from shape s e = rw e
-
-  -- a tag of which all bytes were read
-  unclosed : (k : Known) (shape : Shape) → k .at ≡ length doc → Tagged doc k
-      → stop r (inTag (k .quote)) (span (k .from) (k .at)) ≡ taken doc r open-name room (cutTag doc (k .from) shape)
-  unclosed k shape e t =
-      rw (e, ← in-tag-is (k .quote) (t .quote))
-      (open-taken (k .from) shape (quoted (k .quote))
-      (t .scan ∙ ap elementAnswer (scan-end elementStep (quoted (k .quote)) doc (k .at) (omega arith))))
+-- a tag of which all bytes were read
+unclosed : (doc : List ℕ) (k : Known) (shape : Shape) → k .at ≡ length doc → Tagged doc k → cutNext doc (k .from) ≡ cutTag doc (k .from) shape
+    → cutNext doc (k .from) ≡ stopCut (inTag (k .quote)) (k .from) (length doc)
+unclosed doc k shape e t c =
+    c
+    ∙ tag-open doc (k .from) shape (quoted (k .quote)) (t .scan ∙ ap elementAnswer (scan-end elementStep (quoted (k .quote)) doc (k .at) (omega arith)))
+    ∙ ap (λ (x : Error). stopCut x (k .from) (length doc)) (in-tag-is (k .quote) (t .quote))
 
 -- a lone `<` at the end
 pub opened-open : (doc : List ℕ) (r : Reader) (open-name : Span) (room : Depth) (k : Known) → Tracks doc open-name k → k .at ≡ length doc → k .part ≡ Part.Opened
     → Means doc k Part.Opened → unclosedIn r k open-name room Part.Opened ≡ taken doc r open-name room (cutNext doc (k .from))
 opened-open doc r open-name room k t e p m =
-    lone-taken doc r open-name room (k .from)
-    ∙ ap (taken doc r open-name room) (sym (cut-lone doc (k .from) (m .first) (omega (arith, m .size))))
+    stop-is doc r open-name room Error.UnclosedTag (k .from) (k .from) (lone-cut doc (k .from) (m .first) (omega (arith, m .size)))
+
+-- the kinds of a tag, by what stands behind its `<`
+closing-cut : (doc : List ℕ) (k : Known) → Means doc k Part.Closing → cutNext doc (k .from) ≡ cutTag doc (k .from) Shape.End
+closing-cut doc k m = end-cut doc (k .from) (m .0 .first) (m .1)
+
+opening-cut : (doc : List ℕ) (k : Known) → k .at ≤ length doc → Means doc k Part.Opening → cutNext doc (k .from) ≡ cutTag doc (k .from) Shape.Start
+opening-cut doc k h m = start-cut doc (k .from) (m .0 .first) (omega (arith, m .0 .size)) (m .1) (m .2) (m .3)
 
 pub closing-open : (doc : List ℕ) (r : Reader) (open-name : Span) (room : Depth) (k : Known) → Tracks doc open-name k → k .at ≡ length doc → k .part ≡ Part.Closing
     → Means doc k Part.Closing → unclosedIn r k open-name room Part.Closing ≡ taken doc r open-name room (cutNext doc (k .from))
 closing-open doc r open-name room k t e p m =
-    ap (λ (x : Error). stop r x (span (k .from) (k .at))) (no-closer k Part.Closing p)
-    ∙ unclosed doc r open-name room k Shape.End e (m .0)
-    ∙ ap (taken doc r open-name room) (sym (cut-end doc (k .from) (m .0 .first) (m .1)))
+    open-is doc r open-name room k Part.Closing (inTag (k .quote)) e p refl (unclosed doc k Shape.End e (m .0) (closing-cut doc k m))
 
 pub opening-open : (doc : List ℕ) (r : Reader) (open-name : Span) (room : Depth) (k : Known) → Tracks doc open-name k → k .at ≡ length doc → k .part ≡ Part.Opening
     → Means doc k Part.Opening → unclosedIn r k open-name room Part.Opening ≡ taken doc r open-name room (cutNext doc (k .from))
 opening-open doc r open-name room k t e p m =
-    ap (λ (x : Error). stop r x (span (k .from) (k .at))) (no-closer k Part.Opening p)
-    ∙ unclosed doc r open-name room k Shape.Start e (m .0)
-    ∙ ap (taken doc r open-name room) (sym (cut-start doc (k .from) (m .0 .first) (omega (arith, m .0 .size)) (m .1) (m .2) (m .3)))
+    open-is doc r open-name room k Part.Opening (inTag (k .quote)) e p refl (unclosed doc k Shape.Start e (m .0) (opening-cut doc k (t .high) m))
 
--- ---- the tag ends
+-- ---- an opening tag
 
-module _ (doc : List ℕ) (r : Reader) (open-name : Span) (room : Depth) (k : Known) (t : Tracks doc open-name k) (l : k .at < length doc) (g : getD doc (k .at) 0 ≡ gt) where
+module _ (doc : List ℕ) (r : Reader) (open-name : Span) (room : Depth) (k : Known) (t : Tracks doc open-name k) (e : getD doc (k .from) 0 ≡ lt) (m : k .from < k .at) where
   abbrev piece : Span
   piece = span (k .from) (k .at + 1)
 
-  abbrev pieceOf : Shape → Piece
-  pieceOf shape = record { shape = shape; span = piece; next = Phase.InsideText }
+  -- the `<` is not white space
+  name-behind : k .from + 1 ≤ k .name
+  name-behind =
+      first-late (White doc) (k .from) (k .at) (k .name) (k .from + 1) (t .name) (omega arith)
+      (λ j h l w. clash (isWhite (getD doc j 0)) w (ap isWhite (byte-same doc j (k .from) (omega arith) ∙ e)))
 
-  at-taken : (shape : Shape) → elementFound doc (k .from) ≡ TagFound.At (k .at)
-      → checked doc r open-name room (pieceOf shape) ≡ taken doc r open-name room (cutTag doc (k .from) shape)
-  unfolding taken cutTag whole
-  at-taken shape e = rw e
+  named : (to : ℕ) → k .from + 1 ≤ to → to ≤ k .at → whiteLen (part doc (k .from + 1) to) ≡ nameLen k (span (k .from + 1) to)
+  named to h n = name-is doc (k .from) (k .at) (k .name) (k .from + 1) to (t .name) name-behind (omega arith) h n (t .high)
 
-  -- the check of its bytes
-  by-check : (shape : Shape) (u : Utf8) → check (k .from) (part doc (k .from) (k .at + 1)) ≡ u
-      → checked doc r open-name room (pieceOf shape)
-      ≡ byUtf8 u (emittedAs doc r open-name room shape piece Phase.InsideText) (λ ill. stopped r Error.Encoding (at ill) piece)
-  unfolding checked emitted
-  by-check shape u e =
-      ap (λ (u : Utf8). byUtf8 u (emittedAs doc r open-name room shape piece Phase.InsideText) (λ ill. stopped r Error.Encoding (at ill) piece)) e
+  -- what lies between `<` and `>`, or `/>`
+  inner-one : inner piece 1 1 ≡ span (k .from + 1) (k .at)
+  inner-one = inner-to (k .from) (k .at + 1) 1 1 (k .at) (omega arith) (omega arith)
 
-  checks : (shape : Shape) → becomes r k piece Phase.InsideText open-name room (k .part) ≡ emittedAs doc r open-name room shape piece Phase.InsideText
-      → wholeOf r k piece Phase.InsideText open-name room ≡ checked doc r open-name room (pieceOf shape)
-  unfolding wholeOf
-  checks shape h =
-      pick-cases (λ (x : Step). x ≡ checked doc r open-name room (pieceOf shape)) (eqb (k .letters .owed) 0) _ _
-      (λ e. h ∙ sym (by-check shape _ (spelt-well-more doc (k .from) (k .at) (k .letters) l (omega arith) (t .letters) (eqb-true (k .letters .owed) 0 e))))
-      (λ e. sym (by-check shape _ (spelt-ill-more doc (k .from) (k .at) (k .letters) l (omega arith) (t .letters) (eqb-false (k .letters .owed) 0 e))))
+  inner-two : k .from + 2 ≤ k .at → inner piece 1 2 ≡ span (k .from + 1) (k .at - 1)
+  inner-two h = inner-to (k .from) (k .at + 1) 1 2 (k .at - 1) (omega arith) (omega arith)
 
-  -- from the piece to the cut
-  closed : (shape : Shape) (p : Part) → k .part ≡ p → elementFound doc (k .from) ≡ TagFound.At (k .at)
-      → becomes r k piece Phase.InsideText open-name room p ≡ emittedAs doc r open-name room shape piece Phase.InsideText
-      → wholeOf r k (closedPiece r k open-name room (getD doc (k .at) 0)) (behind (getD doc (k .at) 0)) open-name room
-      ≡ taken doc r open-name room (cutTag doc (k .from) shape)
-  unfolding behind
-  closed shape p e f h =
-      rw g (checks shape (ap (becomes r k piece Phase.InsideText open-name room) e ∙ h) ∙ at-taken shape f)
+  -- the byte before the `>`
+  last-is : k .last ≡ getD doc (k .at - 1) 0
+  last-is = t .last m
 
-  -- ---- an opening tag
+  last-first : k .at ≡ k .from + 1 → k .last ≡ lt
+  last-first f =
+      last-is ∙ byte-same doc (k .at - 1) (k .from) (omega arith) ∙ e
 
-  module _ (e : getD doc (k .from) 0 ≡ lt) (m : k .from < k .at) where
-    first-plain : White doc (k .from) → ⊥
-    first-plain w = clash (isWhite (getD doc (k .from) 0)) w (rw e)
+  slash-behind : k .last ≡ slash → k .from + 2 ≤ k .at
+  slash-behind s =
+      elim (decLt (k .from + 1) (k .at)) [
+        | yes h ↦ omega arith
+        | no h ↦ let f = last-first (omega arith) in absurd (omega arith)
+      ]
 
-    name-behind : k .from + 1 ≤ k .name
-    name-behind =
-        elim (decLt (k .from) (k .name)) [
-          | yes h ↦ omega arith
-          | no h ↦
-              let same : k .name ≡ k .from = omega (arith, t .name .low) in
-              absurd (first-plain (rw same at (t .name .here (omega arith))))
-        ]
+  slashed-is : endsSlashed doc piece ≡ eqb (k .last) slash
+  unfolding endsSlashed
+  slashed-is =
+      rw inner-one
+      (elim (decLt (k .from + 1) (k .at)) [
+        | yes h ↦ rw (lt-ltb (k .from + 1) (k .at) h, last-is)
+        | no h ↦ rw (le-ltb (k .from + 1) (k .at) (omega arith), last-first (omega arith))
+      ])
 
-    named : (to : ℕ) → k .from + 1 ≤ to → to ≤ k .at → whiteLen (part doc (k .from + 1) to) ≡ nameLen k (span (k .from + 1) to)
-    named to h n = name-is doc (k .from) (k .at) (k .name) (k .from + 1) to (t .name) name-behind (omega arith) h n (t .high)
+  -- its event
+  tag-is : (kind : Kind) (to : ℕ) (content : Span) → content ≡ span (k .from + 1) to → k .from + 1 ≤ to → to ≤ k .at
+      → tag doc kind piece content ≡ event kind piece content (nameLen k content)
+  unfolding tag
+  tag-is kind to content f h n = rw f (ap (event kind piece (span (k .from + 1) to)) (named to h n))
 
-    -- what lies between `<` and `>`, or `/>`
-    inner-one : inner piece 1 1 ≡ span (k .from + 1) (k .at)
-    unfolding inner
-    inner-one =
-        let f : k .at + 1 - 1 ≡ k .at = omega arith in
-        rw (le-leb (k .from + 1 + 1) (k .at + 1) (omega arith), f)
+  tag-by : (kind : Kind) (x : Bool) → eqb (k .last) slash ≡ x
+      → tag doc kind piece (inner piece 1 (pick x 2 1)) ≡ event kind piece (inner piece 1 (pick x 2 1)) (nameLen k (inner piece 1 (pick x 2 1)))
+  tag-by kind true f =
+      let h = slash-behind (eqb-true (k .last) slash f) in
+      tag-is kind (k .at - 1) (inner piece 1 2) (inner-two h) (omega arith) (omega arith)
+  tag-by kind false f = tag-is kind (k .at) (inner piece 1 1) inner-one (omega arith) (omega arith)
 
-    inner-two : k .from + 2 ≤ k .at → inner piece 1 2 ≡ span (k .from + 1) (k .at + 1 - 2)
-    unfolding inner
-    inner-two h = rw (le-leb (k .from + 1 + 2) (k .at + 1) (omega arith))
+  -- the name is put on the stack, or there is no room for it
+  opening-is : (content : Span) (name : ℕ) (next : Phase)
+      → pick (leb (room .0) (r .depth .0)) (stop r Error.NameStackFull (span (k .from) (k .from)))
+      (tell (withDepth r (further (r .depth))) Kind.Start piece content name next)
+      ≡ opening r room (event Kind.Start piece content name) next
+  unfolding opening stop tell
+  opening-is content name next = sym (turned (r .depth .0) (room .0) _ _)
 
-    -- the byte before the `>`
-    last-is : k .last ≡ getD doc (k .at - 1) 0
-    last-is = t .last m
+  -- by the two flags
+  abbrev content : Bool → Span
+  content x = inner piece 1 (pick x 2 1)
 
-    last-first : k .at ≡ k .from + 1 → k .last ≡ lt
-    last-first f =
-        let b : k .at - 1 ≡ k .from = omega arith in
-        last-is ∙ ap (λ (n : ℕ). getD doc n 0) b ∙ e
+  by-flags : (x y : Bool) → ((kind : Kind) → tag doc kind piece (content x) ≡ event kind piece (content x) (nameLen k (content x)))
+      → pick (x && not y) (tell r Kind.Empty piece (content x) (nameLen k (content x)) Phase.InsideText)
+      (pick (leb (room .0) (r .depth .0)) (stop r Error.NameStackFull (span (k .from) (k .from)))
+      (tell (withDepth r (further (r .depth))) Kind.Start piece (content x) (nameLen k (content x)) (pick x Phase.InsideEmpty Phase.InsideText)))
+      ≡ pick x
+      (pick y (opening r room (tag doc Kind.Start piece (inner piece 1 2)) Phase.InsideEmpty)
+      (told r (tag doc Kind.Empty piece (inner piece 1 2)) Phase.InsideText))
+      (opening r room (tag doc Kind.Start piece (inner piece 1 1)) Phase.InsideText)
+  unfolding tell
+  by-flags true true h =
+      opening-is (inner piece 1 2) (nameLen k (inner piece 1 2)) Phase.InsideEmpty
+      ∙ ap (λ (v : Event). opening r room v Phase.InsideEmpty) (sym (h Kind.Start))
+  by-flags true false h = ap (λ (v : Event). told r v Phase.InsideText) (sym (h Kind.Empty))
+  by-flags false y h =
+      opening-is (inner piece 1 1) (nameLen k (inner piece 1 1)) Phase.InsideText
+      ∙ ap (λ (v : Event). opening r room v Phase.InsideText) (sym (h Kind.Start))
 
-    slash-behind : k .last ≡ slash → k .from + 2 ≤ k .at
-    slash-behind s =
-        elim (decLt (k .from + 1) (k .at)) [
-          | yes h ↦ omega arith
-          | no h ↦ let f = last-first (omega arith) in absurd (omega arith)
-        ]
-
-    slashed-is : endsSlashed doc piece ≡ eqb (k .last) slash
-    unfolding endsSlashed
-    slashed-is =
-        rw inner-one
-        (elim (decLt (k .from + 1) (k .at)) [
-          | yes h ↦ rw (lt-ltb (k .from + 1) (k .at) h, last-is)
-          | no h ↦ rw (le-ltb (k .from + 1) (k .at) (omega arith), last-first (omega arith))
-        ])
-
-    -- its event
-    tag-is : (kind : Kind) (to : ℕ) (content : Span) → content ≡ span (k .from + 1) to → k .from + 1 ≤ to → to ≤ k .at
-        → tag doc kind piece content ≡ event kind piece content (nameLen k content)
-    unfolding tag
-    tag-is kind to content f h n = rw f (ap (event kind piece (span (k .from + 1) to)) (named to h n))
-
-    tag-by : (kind : Kind) (x : Bool) → eqb (k .last) slash ≡ x
-        → tag doc kind piece (inner piece 1 (pick x 2 1)) ≡ event kind piece (inner piece 1 (pick x 2 1)) (nameLen k (inner piece 1 (pick x 2 1)))
-    tag-by kind true f =
-        let h = slash-behind (eqb-true (k .last) slash f) in
-        tag-is kind (k .at + 1 - 2) (inner piece 1 2) (inner-two h) (omega arith) (omega arith)
-    tag-by kind false f = tag-is kind (k .at) (inner piece 1 1) inner-one (omega arith) (omega arith)
-
-    -- the name is put on the stack, or there is no room for it
-    opening-is : (content : Span) (name : ℕ) (next : Phase)
-        → pick (leb (room .0) (r .depth .0)) (stop r Error.NameStackFull (span (k .from) (k .from)))
-        (tell (withDepth r (further (r .depth))) Kind.Start piece content name next)
-        ≡ opening r room (event Kind.Start piece content name) next
-    unfolding opening stop tell
-    opening-is content name next =
-        elim (decLt (r .depth .0) (room .0)) [
-          | yes h ↦ rw (lt-ltb (r .depth .0) (room .0) h, lt-leb (room .0) (r .depth .0) h)
-          | no h ↦ rw (le-ltb (r .depth .0) (room .0) (omega arith), le-leb (room .0) (r .depth .0) (omega arith))
-        ]
-
-    -- by the two flags
-    abbrev content : Bool → Span
-    content x = inner piece 1 (pick x 2 1)
-
-    by-flags : (x y : Bool) → ((kind : Kind) → tag doc kind piece (content x) ≡ event kind piece (content x) (nameLen k (content x)))
-        → pick (x && not y) (tell r Kind.Empty piece (content x) (nameLen k (content x)) Phase.InsideText)
-        (pick (leb (room .0) (r .depth .0)) (stop r Error.NameStackFull (span (k .from) (k .from)))
-        (tell (withDepth r (further (r .depth))) Kind.Start piece (content x) (nameLen k (content x)) (pick x Phase.InsideEmpty Phase.InsideText)))
-        ≡ pick x
-        (pick y (opening r room (tag doc Kind.Start piece (inner piece 1 2)) Phase.InsideEmpty)
-        (told r (tag doc Kind.Empty piece (inner piece 1 2)) Phase.InsideText))
-        (opening r room (tag doc Kind.Start piece (inner piece 1 1)) Phase.InsideText)
-    unfolding tell
-    by-flags true true h =
-        opening-is (inner piece 1 2) (nameLen k (inner piece 1 2)) Phase.InsideEmpty
-        ∙ ap (λ (v : Event). opening r room v Phase.InsideEmpty) (sym (h Kind.Start))
-    by-flags true false h = ap (λ (v : Event). told r v Phase.InsideText) (sym (h Kind.Empty))
-    by-flags false y h =
-        opening-is (inner piece 1 1) (nameLen k (inner piece 1 1)) Phase.InsideText
-        ∙ ap (λ (v : Event). opening r room v Phase.InsideText) (sym (h Kind.Start))
-
-    start-is : openingOf r k piece room ≡ emitStart doc r room piece
-    unfolding openingOf emitStart
-    start-is =
-        rw slashed-is
-        (by-flags (eqb (k .last) slash) (r .settings .«expand_empty_elements») (λ kind. tag-by kind (eqb (k .last) slash) refl))
+  start-is : openingOf r k piece room ≡ emitStart doc r room piece
+  unfolding openingOf emitStart
+  start-is =
+      rw slashed-is
+      (by-flags (eqb (k .last) slash) (r .settings .«expand_empty_elements») (λ kind. tag-by kind (eqb (k .last) slash) refl))
 
 -- the scan halts at a `>` outside quotes
 tag-halts : (doc : List ℕ) (k : Known) → k .at < length doc → Tagged doc k → getD doc (k .at) 0 ≡ gt → k .quote ≡ 0
@@ -364,7 +277,7 @@ tag-halts : (doc : List ℕ) (k : Known) → k .at < length doc → Tagged doc k
 tag-halts doc k l t g q =
     t .scan
     ∙ ap (λ (n : ℕ). elementAnswer (scanAt elementStep (quoted n) doc (k .at))) q
-    ∙ ap elementAnswer (scan-halt elementStep ElementState.Outside doc (k .at) l (step-halt (getD doc (k .at) 0) g))
+    ∙ sym (end-found doc (scanAt elementStep ElementState.Outside doc (k .at)) (k .at) refl l g)
 
 -- `<>`
 pub opened-closed : (doc : List ℕ) (r : Reader) (open-name : Span) (room : Depth) (k : Known) → Tracks doc open-name k → k .at < length doc → k .part ≡ Part.Opened
@@ -373,24 +286,24 @@ pub opened-closed : (doc : List ℕ) (r : Reader) (open-name : Span) (room : Dep
 opened-closed doc r open-name room k t l p m x =
     let s = m .size in
     let g = eqb-true (getD doc (k .at) 0) gt x in
-    let b : getD doc (k .from + 1) 0 ≡ gt = ap (λ (n : ℕ). getD doc n 0) (sym s) ∙ g in
-    let f : elementFound doc (k .from) ≡ TagFound.At (k .at) =
-    tag-first doc (k .from) (m .first)
-    ∙ ap (λ (n : ℕ). elementAnswer (scanAt elementStep ElementState.Outside doc n)) (sym s)
-    ∙ ap elementAnswer (scan-halt elementStep ElementState.Outside doc (k .at) l (step-halt (getD doc (k .at) 0) g)) in
-    closed doc r open-name room k t l g Shape.Start Part.Opened p f (start-is doc r open-name room k t l g (m .first) (omega arith))
-    ∙ ap (taken doc r open-name room) (sym (cut-start doc (k .from) (m .first) (omega arith) (λ n. omega arith) (λ n. omega arith) (λ n. omega arith)))
+    let b : getD doc (k .from + 1) 0 ≡ gt = byte-same doc (k .from + 1) (k .at) (sym s) ∙ g in
+    closed-is doc r open-name room k t Shape.Start Part.Opened gt l g (omega arith) refl p (start-is doc r open-name room k t (m .first) (omega arith))
+    (start-cut doc (k .from) (m .first) (omega arith) (λ n. omega arith) (λ n. omega arith) (λ n. omega arith)
+    ∙ tag-to doc (k .from) Shape.Start (k .at)
+    (tag-first doc (k .from) (m .first) ∙ sym (end-found doc (scanAt elementStep ElementState.Outside doc (k .from + 1)) (k .at) (ap (scanAt elementStep ElementState.Outside doc) (sym s)) l g)))
+
+-- the two tests at its end
+tag-ends : (b q : ℕ) → (eqb b gt && eqb q 0) ≡ true → (b ≡ gt) × (q ≡ 0)
+tag-ends b q e = (eqb-true b gt (and-left (eqb b gt) (eqb q 0) e), eqb-true q 0 (and-right (eqb b gt) (eqb q 0) e))
 
 pub opening-closed : (doc : List ℕ) (r : Reader) (open-name : Span) (room : Depth) (k : Known) → Tracks doc open-name k → k .at < length doc → k .part ≡ Part.Opening
     → Means doc k Part.Opening → endsIn k (getD doc (k .at) 0) Part.Opening ≡ true
     → closedIn r k open-name room (getD doc (k .at) 0) Part.Opening ≡ taken doc r open-name room (cutNext doc (k .from))
 opening-closed doc r open-name room k t l p m x =
-    let s = m .0 .size in
-    let g = eqb-true (getD doc (k .at) 0) gt (and-left (eqb (getD doc (k .at) 0) gt) (eqb (k .quote) 0) x) in
-    let q = eqb-true (k .quote) 0 (and-right (eqb (getD doc (k .at) 0) gt) (eqb (k .quote) 0) x) in
-    closed doc r open-name room k t l g Shape.Start Part.Opening p (tag-halts doc k l (m .0) g q)
-    (start-is doc r open-name room k t l g (m .0 .first) (omega arith))
-    ∙ ap (taken doc r open-name room) (sym (cut-start doc (k .from) (m .0 .first) (omega arith) (m .1) (m .2) (m .3)))
+    let w = tag-ends (getD doc (k .at) 0) (k .quote) x in
+    closed-is doc r open-name room k t Shape.Start Part.Opening gt l (w .0) (omega arith) refl p
+    (start-is doc r open-name room k t (m .0 .first) (omega (arith, m .0 .size)))
+    (opening-cut doc k (t .high) m ∙ tag-to doc (k .from) Shape.Start (k .at) (tag-halts doc k l (m .0) (w .0) (w .1)))
 
 -- ---- a closing tag
 
@@ -427,16 +340,13 @@ module _ (r : Reader) (last piece name : Span) where
   end-flags false allow true false h = refl
   end-flags false allow false alike h = refl
 
-module _ (doc : List ℕ) (r : Reader) (open-name : Span) (room : Depth) (k : Known) (t : Tracks doc open-name k) (l : k .at < length doc)
+module _ (doc : List ℕ) (r : Reader) (open-name : Span) (room : Depth) (k : Known) (t : Tracks doc open-name k)
     (low : open-name .from ≤ open-name .to) (high : open-name .to ≤ length doc) (m : k .from + 2 ≤ k .at) (e : getD doc (k .from + 1) 0 ≡ slash) where
   abbrev whole-tag : Span
   whole-tag = span (k .from) (k .at + 1)
 
   between : inner whole-tag 2 1 ≡ span (k .from + 2) (k .at)
-  unfolding inner
-  between =
-      let f : k .at + 1 - 1 ≡ k .at = omega arith in
-      rw (le-leb (k .from + 2 + 1) (k .at + 1) (omega arith), f)
+  between = inner-to (k .from) (k .at + 1) 2 1 (k .at) m (omega arith)
 
   kept-behind : k .from + 2 ≤ k .kept
   kept-behind =
@@ -496,8 +406,7 @@ pub closing-closed : (doc : List ℕ) (r : Reader) (open-name : Span) (room : De
     → open-name .to ≤ length doc → k .at < length doc → k .part ≡ Part.Closing → Means doc k Part.Closing → endsIn k (getD doc (k .at) 0) Part.Closing ≡ true
     → closedIn r k open-name room (getD doc (k .at) 0) Part.Closing ≡ taken doc r open-name room (cutNext doc (k .from))
 closing-closed doc r open-name room k t low high l p m x =
-    let g = eqb-true (getD doc (k .at) 0) gt (and-left (eqb (getD doc (k .at) 0) gt) (eqb (k .quote) 0) x) in
-    let q = eqb-true (k .quote) 0 (and-right (eqb (getD doc (k .at) 0) gt) (eqb (k .quote) 0) x) in
-    closed doc r open-name room k t l g Shape.End Part.Closing p (tag-halts doc k l (m .0) g q)
-    (end-is doc r open-name room k t l low high (m .0 .size) (m .1))
-    ∙ ap (taken doc r open-name room) (sym (cut-end doc (k .from) (m .0 .first) (m .1)))
+    let w = tag-ends (getD doc (k .at) 0) (k .quote) x in
+    closed-is doc r open-name room k t Shape.End Part.Closing gt l (w .0) (omega arith) refl p
+    (end-is doc r open-name room k t low high (m .0 .size) (m .1))
+    (closing-cut doc k m ∙ tag-to doc (k .from) Shape.End (k .at) (tag-halts doc k l (m .0) (w .0) (w .1)))

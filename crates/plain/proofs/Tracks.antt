@@ -1,6 +1,6 @@
 -- What is known of a piece is so: each tracker has its own law, and a byte more keeps them all. Assumes nothing.
 use Prim.Native.Nat.{ℕ, _+_, _-_, _≤_, _<_}
-use mathlib.Core.Path.{_≡_, refl, sym, ap, _∙_}
+use mathlib.Core.Path.{_≡_, sym, _∙_}
 use mathlib.Core.List.{List}
 use mathlib.Core.Bool.{Bool, true, false, not, _&&_}
 use native.Mathlib.Omega.{arith}
@@ -14,6 +14,7 @@ use Rattle.parser.specs.Hyphens.{PairEnd}
 use Rattle.state.specs.declared.place.Span.{Span}
 use Rattle.plain.specs.declared.known.Known.{Known}
 use Rattle.plain.specs.Known.{fresh, more, sizeOf, sameOf, twoHyphens}
+use Rattle.plain.proofs.Bytes.{byte-same}
 use Rattle.plain.proofs.First.{First, White, first-start, first-more}
 use Rattle.plain.proofs.Flags.{and-left, and-right}
 use Rattle.plain.proofs.Kept.{Kept, kept-start, kept-more}
@@ -52,9 +53,6 @@ module _ (doc : List ℕ) (open-name : Span) (k : Known) (l : k .at < length doc
   abbrev b : ℕ
   b = getD doc (k .at) 0
 
-  byte-same : (i j : ℕ) → i ≡ j → getD doc i 0 ≡ getD doc j 0
-  byte-same i j e = ap (λ (n : ℕ). getD doc n 0) e
-
   -- two hyphens in a row end here exactly where the test says so
   two-true : twoHyphens k b ≡ true → PairEnd doc (k .from + 4) (k .at)
   two-true e =
@@ -86,8 +84,8 @@ module _ (doc : List ℕ) (open-name : Span) (k : Known) (l : k .at < length doc
         letters = spelt-more doc (k .from) (k .at) (k .letters) l (t .letters);
         kept = kept-more doc (k .from) (k .at) (k .kept) (t .kept);
         name = first-more (White doc) (k .from) (k .at) (k .name) (isWhite b) (t .name) (λ e. e) (λ e h. clash (isWhite b) h e);
-        last = λ h. byte-same (k .at) (k .at + 1 - 1) (omega arith);
-        before = λ h. t .last (omega arith) ∙ byte-same (k .at - 1) (k .at + 1 - 2) (omega arith);
+        last = λ h. byte-same doc (k .at) (k .at + 1 - 1) (omega arith);
+        before = λ h. t .last (omega arith) ∙ byte-same doc (k .at - 1) (k .at + 1 - 2) (omega arith);
         pair = first-more (PairEnd doc (k .from + 4)) (k .from) (k .at) (k .pair) (twoHyphens k b) (t .pair) two-true two-false;
         differs =
             first-more (Differs doc open-name (k .from)) (k .from) (k .at) (k .differs) (not same) (t .differs)

@@ -2,36 +2,35 @@
 use Prim.Native.Nat.{ℕ, _+_, _-_, _≤_, _<_}
 use mathlib.Core.Path.{_≡_, refl, sym, ap, _∙_, subst}
 use mathlib.Core.List.{List}
-use mathlib.Core.Bool.{Bool, true, false, not, _&&_, _||_}
+use mathlib.Core.Bool.{Bool, true, false, not, _&&_}
 use mathlib.Core.Logic.{_⊎_, inl}
 use native.Mathlib.Omega.{arith}
 use native.Mathlib.Decide.{decLt}
 use lib.ListN.{length, getD}
 use lib.Dec.{eqb}
 use borrow.Author.Tests.{eqb-true, eqb-false}
-use Rattle.ground.specs.Choose.{pick}
 use Rattle.ground.specs.Bytes.{amp, bang, gt, hyphen, lt, openBracket, question, slash}
 use Rattle.ground.proofs.Choices.{clash, pick-cases, not-false}
 use Rattle.parser.specs.Machine.{scanAt}
 use Rattle.parser.specs.Element.{elementStep, elementAnswer, elementFound, IsQuote}
-use Rattle.parser.specs.First.{firstStep, firstAnswer, oneOf, textEnds, textFound, referenceEnds, referenceFound}
+use Rattle.parser.specs.First.{firstStep, firstAnswer, oneOf, textEnds, referenceEnds}
 use Rattle.parser.specs.Marks.{PiEnd, CommentEnd, CDataEnd}
-use Rattle.parser.proofs.Machine.{scan-more}
+use Rattle.parser.proofs.Turns.{first-turn}
 use Rattle.state.specs.declared.place.Span.{Span}
-use Rattle.reader.specs.Cut.{cutNext, cutText, cutRef}
 use Rattle.plain.specs.declared.known.Part.{Part}
 use Rattle.plain.specs.declared.known.Known.{Known}
 use Rattle.plain.specs.Known.{nextPart, goes, opens, nextQuote, endsIn, more, sizeOf}
-use Rattle.plain.proofs.Flags.{and-left, and-right}
+use Rattle.plain.proofs.Bytes.{byte-same, of-two, of-three}
+use Rattle.plain.proofs.Cuts.{text-cut, ref-cut}
 use Rattle.plain.proofs.Marked.{comment-goes, cdata-goes, instruction-goes}
-use Rattle.plain.proofs.Means.{Right, quoted, AtFirst, AtSecond, Banged, Instructed, Tagged, Means}
+use Rattle.plain.proofs.Means.{Right, quoted, Banged, Instructed, Tagged, Means}
 use Rattle.plain.proofs.Tags.{tag-first, tag-more}
 use Rattle.plain.proofs.Texts.{text-test, reference-test}
 use Rattle.plain.proofs.Tracks.{Tracks}
 
 -- ---- the opener, a byte further
 
-pub right-more : (doc : List ℕ) (p : Part) (from at : ℕ) (right : Bool) → from ≤ at → Right doc p from at right
+right-more : (doc : List ℕ) (p : Part) (from at : ℕ) (right : Bool) → from ≤ at → Right doc p from at right
     → Right doc p from (at + 1) (right && opens p (at - from) (getD doc at 0))
 right-more doc p from at true h v =
     record {
@@ -46,21 +45,6 @@ right-more doc p from at false h v =
       all = λ e. clash false e refl;
       some = λ e. let w = v .some refl in (w .0, w .1, omega (arith, w .2), w .3);
     }
-
--- one of the first two places, and of the first three
-of-two : (M : ℕ → Type 0) (from j : ℕ) → from ≤ j → j < from + 2 → M from → M (from + 1) → M j
-of-two M from j l h a b =
-    elim (decLt from j) [
-      | yes g ↦ subst M (omega arith) b
-      | no g ↦ subst M (omega arith) a
-    ]
-
-of-three : (M : ℕ → Type 0) (from j : ℕ) → from ≤ j → j < from + 3 → M from → M (from + 1) → M (from + 2) → M j
-of-three M from j l h a b c =
-    elim (decLt j (from + 2)) [
-      | yes g ↦ of-two M from j l g a b
-      | no g ↦ subst M (omega arith) c
-    ]
 
 module _ (doc : List ℕ) (p : Part) (from : ℕ) where
   abbrev Fits : ℕ → Type 0
@@ -78,29 +62,6 @@ module _ (doc : List ℕ) (p : Part) (from : ℕ) where
 
 -- ---- what the first bytes tell
 
-text-first : (doc : List ℕ) (from : ℕ) → eqb (getD doc from 0) lt ≡ false → eqb (getD doc from 0) amp ≡ false → cutNext doc from ≡ cutText doc from
-unfolding cutNext
-text-first doc from e f = rw (e, f)
-
-ref-first : (doc : List ℕ) (from : ℕ) → eqb (getD doc from 0) lt ≡ false → eqb (getD doc from 0) amp ≡ true → cutNext doc from ≡ cutRef doc from
-unfolding cutNext
-ref-first doc from e f = rw (e, f)
-
-neither : (x y : Bool) → x ≡ false → y ≡ false → pick x true (pick y true false) ≡ false
-neither x y e f = rw (e, f)
-
-no-quote : (q b : ℕ) → q ≡ 0 → b ≡ lt → nextQuote q b ≡ 0
-unfolding nextQuote
-no-quote q b e f = rw (e, f)
-
-first-goes : (ks : List ℕ) (doc : List ℕ) (i : ℕ) → i < length doc → oneOf ks (getD doc i 0) ≡ false
-    → scanAt (firstStep (oneOf ks)) tt doc i ≡ scanAt (firstStep (oneOf ks)) tt doc (i + 1)
-first-goes ks doc i l e = scan-more (firstStep (oneOf ks)) tt doc i tt l (rw e)
-
-hyphen-else : (x y : Bool) → x ≡ false → (not x && not y) ≡ false → y ≡ true
-hyphen-else true y e f = clash true refl e
-hyphen-else false y e f = not-false y f
-
 module _ (doc : List ℕ) (open-name : Span) (k : Known) (t : Tracks doc open-name k) (l : k .at < length doc) (same : Bool) where
   abbrev b : ℕ
   b = getD doc (k .at) 0
@@ -114,35 +75,40 @@ module _ (doc : List ℕ) (open-name : Span) (k : Known) (t : Tracks doc open-na
   unfolding more
   still p e f g = rw (e, f, g)
 
+  -- the scan for the first of some bytes goes on
+  scan-goes : (ks : List ℕ) → oneOf ks b ≡ false
+      → firstAnswer (scanAt (firstStep (oneOf ks)) tt doc (k .at)) ≡ firstAnswer (scanAt (firstStep (oneOf ks)) tt doc (k .at + 1))
+  scan-goes ks e = ap firstAnswer (first-turn (oneOf ks) doc _ (k .at) refl l (sym e))
+
   nothing-next : k .part ≡ Part.Nothing → Means doc k Part.Nothing → Means doc next (nextPart Part.Nothing b)
-  unfolding more
+  unfolding more nextQuote
   nothing-next e m =
       let z = m .0 in
       let r = still Part.Nothing e refl (m .1) in
-      let here : getD doc (k .from) 0 ≡ b = ap (λ (i : ℕ). getD doc i 0) z in
+      let here = byte-same doc (k .from) (k .at) z in
       pick-cases (Means doc next) (eqb b lt) _ _
-      (λ x. record { size = omega arith; first = here ∙ eqb-true b lt x; right = r; quote = no-quote (k .quote) b (m .2) (eqb-true b lt x) })
+      (λ x. record { size = omega arith; first = here ∙ eqb-true b lt x; right = r; quote = rw (m .2, eqb-true b lt x) })
       (λ x. pick-cases (Means doc next) (eqb b amp) _ _
       (λ y. (
         omega arith,
-        ref-first doc (k .from) (ap (λ (c : ℕ). eqb c lt) here ∙ x) (ap (λ (c : ℕ). eqb c amp) here ∙ y),
+        ref-cut doc (k .from) (here ∙ eqb-true b amp y),
         ap (λ (i : ℕ). firstAnswer (scanAt (firstStep (oneOf referenceEnds)) tt doc (i + 1))) z,
       ))
       (λ y. (
         omega arith,
-        text-first doc (k .from) (ap (λ (c : ℕ). eqb c lt) here ∙ x) (ap (λ (c : ℕ). eqb c amp) here ∙ y),
-        ap (λ (i : ℕ). firstAnswer (scanAt (firstStep (oneOf textEnds)) tt doc i)) z ∙ ap firstAnswer (first-goes textEnds doc (k .at) l (neither _ _ x y)),
+        text-cut doc (k .from) b here x y,
+        ap (λ (i : ℕ). firstAnswer (scanAt (firstStep (oneOf textEnds)) tt doc i)) z ∙ scan-goes textEnds (rw (x, y)),
       )))
 
   -- ---- text and references
 
   text-next : Means doc k Part.Text → endsIn k b Part.Text ≡ false → Means doc next Part.Text
   unfolding more
-  text-next m f = (omega (arith, m .0), m .1, m .2 ∙ ap firstAnswer (first-goes textEnds doc (k .at) l (sym (text-test b) ∙ f)))
+  text-next m f = (omega (arith, m .0), m .1, m .2 ∙ scan-goes textEnds (sym (text-test b) ∙ f))
 
   reference-next : Means doc k Part.Reference → endsIn k b Part.Reference ≡ false → Means doc next Part.Reference
   unfolding more
-  reference-next m f = (omega (arith, m .0), m .1, m .2 ∙ ap firstAnswer (first-goes referenceEnds doc (k .at) l (sym (reference-test b) ∙ f)))
+  reference-next m f = (omega (arith, m .0), m .1, m .2 ∙ scan-goes referenceEnds (sym (reference-test b) ∙ f))
 
   -- ---- the byte behind `<`
 
@@ -164,7 +130,7 @@ module _ (doc : List ℕ) (open-name : Span) (k : Known) (t : Tracks doc open-na
       (tag-first doc (k .from) (m .first) ∙ ap (λ (i : ℕ). elementAnswer (scanAt elementStep (quoted 0) doc i)) (sym (m .size)))
 
   second-is : Means doc k Part.Opened → getD doc (k .from + 1) 0 ≡ b
-  second-is m = ap (λ (i : ℕ). getD doc i 0) (sym (m .size))
+  second-is m = byte-same doc (k .from + 1) (k .at) (sym (m .size))
 
   instructed : k .part ≡ Part.Opened → Means doc k Part.Opened → b ≡ question → Instructed doc next
   unfolding more goes
@@ -180,7 +146,7 @@ module _ (doc : List ℕ) (open-name : Span) (k : Known) (t : Tracks doc open-na
             (fits-first doc Part.Instruction (k .from) lt (m .first) refl) (fits-at doc Part.Instruction (k .from) 1 question s refl));
         none = λ j h p.
             let z : j ≡ k .from + 1 = omega (arith, m .size, p .after) in
-            let y : gt ≡ question = sym (p .closes) ∙ ap (λ (i : ℕ). getD doc i 0) z ∙ s in
+            let y : gt ≡ question = sym (p .closes) ∙ byte-same doc j (k .from + 1) z ∙ s in
             omega arith;
       }
 
@@ -204,7 +170,7 @@ module _ (doc : List ℕ) (open-name : Span) (k : Known) (t : Tracks doc open-na
 
   module _ (e : k .part ≡ Part.Bang) (m : Means doc k Part.Bang) where
     third-is : getD doc (k .from + 2) 0 ≡ b
-    third-is = ap (λ (i : ℕ). getD doc i 0) (sym (m .size))
+    third-is = byte-same doc (k .from + 2) (k .at) (sym (m .size))
 
     banged : (p : Part) (byte : ℕ) (End : ℕ → Type 0) → b ≡ byte → opens p 0 lt ≡ true → opens p 1 bang ≡ true → opens p 2 byte ≡ true
         → ((j : ℕ) → j < k .from + 3 → End j → ⊥) → Banged doc next p byte End
@@ -225,7 +191,7 @@ module _ (doc : List ℕ) (open-name : Span) (k : Known) (t : Tracks doc open-na
     cdata-late : b ≡ openBracket → (j : ℕ) → j < k .from + 3 → CDataEnd doc (k .from) j → ⊥
     cdata-late x j h p =
         let z : j ≡ k .from + 2 = omega (arith, p .after) in
-        let y : gt ≡ openBracket = sym (p .closes) ∙ ap (λ (i : ℕ). getD doc i 0) z ∙ third-is ∙ x in
+        let y : gt ≡ openBracket = sym (p .closes) ∙ byte-same doc j (k .from + 2) z ∙ third-is ∙ x in
         omega arith
 
     bang-next : endsIn k b Part.Bang ≡ false → Means doc next (nextPart Part.Bang b)
@@ -233,7 +199,8 @@ module _ (doc : List ℕ) (open-name : Span) (k : Known) (t : Tracks doc open-na
     bang-next f =
         pick-cases (Means doc next) (eqb b openBracket) _ _
         (λ x. banged Part.CData openBracket (CDataEnd doc (k .from)) (eqb-true b openBracket x) refl refl refl (cdata-late (eqb-true b openBracket x)))
-        (λ x. banged Part.Comment hyphen (CommentEnd doc (k .from)) (eqb-true b hyphen (hyphen-else (eqb b openBracket) (eqb b hyphen) x f)) refl refl refl (λ j h p. omega (arith, p .after)))
+        (λ x. banged Part.Comment hyphen (CommentEnd doc (k .from)) (eqb-true b hyphen (not-false (eqb b hyphen) (ap (λ (y : Bool). not y && not (eqb b hyphen)) (sym x) ∙ f))) refl refl refl
+        (λ j h p. omega (arith, p .after)))
 
   -- ---- further on
 
