@@ -44,7 +44,7 @@ impl<'a> Case<'a> {
 }
 
 /// A difference that is not listed: the call, from 1, and what differs, a bit of `FIELDS` each. What the plain engine differs in
-/// from the reader stands `PLAIN` bits higher, with `STRAY` where the state is one that no run has.
+/// from the reader stands `PLAIN` bits higher, with `STRAY` where the state is a changed one.
 #[derive(Clone, Copy, Debug, PartialEq, Eq)]
 pub struct Difference {
     pub call: usize,

@@ -377,7 +377,7 @@ pub fn run(seed: u64) -> bool {
     println!("layout: {told} of {} faults noticed by the layout alone", layout::ALL.len());
     println!("plain: {spoilt} of {} faults of one slot of the plain engine noticed by that slot alone", slots.len());
     println!("plain: {differ} of {} other faults of the plain engine noticed", others.len());
-    println!("plain: {stray} of {} faults of the plain engine noticed in states that no run has", plain::STRAYS.len());
+    println!("plain: {stray} of {} faults of the plain engine noticed in changed states", plain::STRAYS.len());
     println!("compare: {noticed} of {} faults noticed", faults.len());
     noticed == faults.len() && told == layout::ALL.len() && [spoilt, differ, stray] == [slots.len(), others.len(), plain::STRAYS.len()]
 }

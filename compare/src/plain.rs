@@ -39,7 +39,7 @@ pub struct Beside {
     pub left_out: u64,
     /// Large stacks that were compared as a whole.
     whole: u64,
-    /// Calls in states that no run has, and those of them that were refused with 17.
+    /// Calls in changed states, and those of them that were refused with 17.
     pub strays: u64,
     pub refused: u64,
     /// Runs with a difference.
@@ -59,8 +59,8 @@ impl Beside {
     /// What was not compared, where the reader made so many calls.
     pub fn missing(&self, calls: u64) -> impl Iterator<Item = String> {
         let each = (self.calls + self.left_out < calls).then_some("the plain engine at every call");
-        let bad = (self.refused == 0).then_some("a state that no run has, refused by 17");
-        let good = (self.refused == self.strays).then_some("a state that no run has, and is not refused by 17");
+        let bad = (self.refused == 0).then_some("a changed state, refused by 17");
+        let good = (self.refused == self.strays).then_some("a changed state, and is not refused by 17");
         each.into_iter().chain(bad).chain(good).map(String::from)
     }
 
@@ -68,7 +68,7 @@ impl Beside {
         let Self { calls, left_out, whole, strays, refused, failed } = self;
         format!(
             "plain: {calls} calls of the plain engine, {left_out} left out in the longest documents, {whole} large stacks compared as a whole; \
-             {strays} calls in states that no run has, {refused} of them refused by 17; {failed} differences"
+             {strays} calls in changed states, {refused} of them refused by 17; {failed} differences"
         )
     }
 }

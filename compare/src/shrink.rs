@@ -119,7 +119,7 @@ pub fn show<E: Engine>(engine: &mut E, kept: &Kept, difference: Difference) {
         return;
     }
     if kept.stray {
-        println!("  in a state that no run has, in the place of that before the call");
+        println!("  in a changed state, in the place of that before the call");
         strays::run(engine, &case, &mut Beside::default()).err().iter().for_each(|found| found.show());
         return;
     }

@@ -1,4 +1,4 @@
-//! States that no run has: every phase at every place of a document, numbers in the slots that no call leaves there, other open names, and fewer slots than a call needs. The reader
+//! Changed states: every phase at every place of a document, numbers in the slots that no call leaves there, other open names, and fewer slots than a call needs. The reader
 //! and the plain engine answer whatever they are lent, and have to answer and leave the same. The crate has no such states.
 
 use crate::check::*;

@@ -1,5 +1,5 @@
 //! Faults of the plain engine: of each slot by itself, with what the comparison has to say of it, and others, of which some show in a large stack, in a long piece or in
-//! states that no run has.
+//! changed states.
 
 use super::{bare, beside, turned, Call, Fault};
 use crate::check::{PLAIN, RETURNED, SLOT, STACK, STATE_BITS};

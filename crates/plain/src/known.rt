@@ -47,7 +47,7 @@ pub struct Known {
     // Where the piece begins, and where its next byte would stand.
     pub from: usize,
     pub at: usize,
-    // All bytes of the document so far are those of a byte order mark.
+    // In the first call: all bytes of the document so far are those of a byte order mark.
     pub mark: bool,
     pub letters: Letters,
     // Behind the last byte that is not white space.
@@ -59,7 +59,7 @@ pub struct Known {
     // The byte just before, and the one before that.
     pub last: u8,
     pub before: u8,
-    // The opener `<!--`, `<![CDATA[` or `<?xml` is right as far as the piece goes; behind `<?xml` stands white space or `?`.
+    // The opener `<!--`, `<![CDATA[` or `<?xml` is right as far as the piece goes, and a byte behind `<?xml` is white space or `?`. In other pieces it is on.
     pub right: bool,
     // The second of the first two hyphens in a row behind `<!--`; `at` where there are none so far.
     pub pair: usize,
@@ -108,7 +108,7 @@ impl Letters {
 }
 
 impl Part {
-    // What the piece is with this byte.
+    // What the piece is with this byte. (Behind `<!` only `[` and `-` come here: at any other byte the piece ends.)
     fn next(self, b: u8) -> Part
         ensures { λ r. ⌜ r ≡ nextPart self b ⌝ }
     {
@@ -208,7 +208,7 @@ impl Known {
         Span { from, to }.size()
     }
 
-    // How many bytes of the content are the name: those before the first white space.
+    // How many bytes of the content are the name: those before the first white space. No byte of an opener is white space, so the piece's first is the content's.
     pub fn name_len(self, content: Span) -> usize
         ensures { λ r. ⌜ r ≡ nameLenOf self content ⌝ }
     {
@@ -221,7 +221,7 @@ impl Known {
         Span { from, to }.size()
     }
 
-    // Whether the piece ends at this byte: with it, or before it.
+    // Whether the piece ends at this byte: with it, or before it; or is refused there (`<!` and neither `[` nor `-`).
     pub fn ends(self, b: u8) -> bool
         ensures { λ r. ⌜ r ≡ endsOf self b ⌝ }
     {

@@ -2,9 +2,13 @@
 //
 // How to read it. `advance` is a call: a bad state is refused (`sound`), an end that is due is told, and else a piece is read (`read`). `read` is the only loop. It
 // holds one value, `Known` (src/known): all that is known of the piece from its bytes so far. Of each byte it asks whether the piece ends there (`Known::ends`), and if not,
-// what is known with that byte (`Known::tick`). It never looks at a byte behind the one that it is at, nor at one twice, but in a tag at the byte of the open name that
-// stands against it (`same`). Where the piece ends, or the document does, what is known tells the answer (src/told): a function for each kind of piece, in the
+// what is known with that byte (`Known::tick`). It never looks at a byte behind the one that it is at, and takes each byte once. Beside it stands one byte of the open name,
+// which lies before the piece (`same`). Where the piece ends, or the document does, what is known tells the answer (src/told): a function for each kind of piece, in the
 // order in which document 01 refuses.
+//
+// The byte with which a piece ends, or before which it ends, is not taken: what is known is then of the bytes before it. `&` and `|` join tests of which all are made; none of them can fail.
+// What else is called: `byte_at` of `ground` (0 past the end), `is_whitespace` of `white`, and of `state` the limits, `Span::size` and `Span::inner`, and the makers that write a reader's
+// fields (`event`, `refuse`, `stop`, `end`, `bad`, `with_depth`); `end` tells end of file, or 18.
 mod known;
 mod told;
 
@@ -39,6 +43,7 @@ pub fn advance(reader: Reader, document: &[u8], stack: &mut [usize]) -> Step
     let step = answer(reader, document, stack);
     let said = step.answer;
     let values = said.values();
+    // a Start
     if values.kind == 1 {
         let from = values.content.from;
         let to = from + values.name;
@@ -70,7 +75,7 @@ fn answer(reader: Reader, document: &[u8], stack: &[usize]) -> Step
     }
 }
 
-// Whether the state is one over this document and this stack.
+// Whether the state may be read on from, over this document and this stack. At depth 0 the latest name is 0..0, and passes.
 fn sound(reader: Reader, document: &[u8], stack: &[usize]) -> bool
     ensures { λ r. ⌜ r ≡ soundOf (now (document .entry)) (now (stack .entry)) reader ⌝ }
 {
@@ -150,7 +155,7 @@ fn read(reader: Reader, document: &[u8], last: Span, room: Depth, mark: bool) ->
     unclosed(reader, known, last, room)
 }
 
-// Whether a byte behind `</` is the one of the open name that stands against it.
+// Whether a byte behind `</` is the one of the open name that stands against it. It is asked of every piece from its third byte on, and counts in a closing tag alone.
 fn same(document: &[u8], known: Known, last: Span, b: u8) -> bool
     requires { ⌜ Faces known last ⌝ }
     ensures { λ r. ⌜ r ≡ sameOf (now (document .entry)) known last b ⌝ }

@@ -119,7 +119,7 @@ fn no_closer(known: Known) -> Error
     }
 }
 
-// A piece that has its closer or needs none, and the phase that comes next.
+// A piece that has its closer or needs none, and the phase that comes next. (`<>` comes to `opening` as `Opened`; `Bang` does not come here.)
 fn whole(reader: Reader, known: Known, piece: Span, next: Phase, last: Span, room: Depth) -> Step
     ensures { λ r. ⌜ r ≡ wholeOf reader known piece next last room ⌝ }
 {
@@ -158,7 +158,7 @@ fn text(reader: Reader, known: Known, piece: Span, next: Phase, last: Span) -> S
     tell(reader, Kind::Text, piece, Span { from, to }, 0, next)
 }
 
-// A reference: with its `;`, or not.
+// A reference: with its `;`, behind which is text, or not.
 fn reference(reader: Reader, piece: Span, next: Phase) -> Step
     ensures { λ r. ⌜ r ≡ referenceOf reader piece next ⌝ }
 {
@@ -171,6 +171,7 @@ fn reference(reader: Reader, piece: Span, next: Phase) -> Step
     reader.refuse(Error::UnclosedReference, Position(piece.from), piece, next)
 }
 
+// A comment. Two hyphens in a row are refused up to the closer's first, which stands at the content's end. (`second` is never 0.)
 fn comment(reader: Reader, known: Known, piece: Span) -> Step
     ensures { λ r. ⌜ r ≡ commentOf reader known piece ⌝ }
 {
@@ -203,7 +204,7 @@ fn cdata(reader: Reader, known: Known, piece: Span) -> Step
     )
 }
 
-// From `<?` to `?>`: a declaration where the name is `xml`.
+// From `<?` to `?>`: a declaration where the name is `xml`. (`<?xml?x?>` has the right opener, and another name.)
 fn instruction(reader: Reader, known: Known, piece: Span) -> Step
     ensures { λ r. ⌜ r ≡ instructionOf reader known piece ⌝ }
 {
@@ -243,7 +244,7 @@ fn opening(reader: Reader, known: Known, piece: Span, room: Depth) -> Step
     tell(more, Kind::Start, piece, content, name, next)
 }
 
-// A closing tag. It takes the latest open name away, where there is one.
+// A closing tag. It takes the latest open name away, where there is one. (Neither `<` nor `/` is white space: what is kept of the piece is kept of the content.)
 fn closing(reader: Reader, known: Known, piece: Span, last: Span) -> Step
     ensures { λ r. ⌜ r ≡ closingOf reader known piece last ⌝ }
 {

@@ -3,7 +3,7 @@
 //!
 //! With `--all` before the files it prints no lines, but reads each document with all of the 512 settings, and says how many calls were compared.
 //!
-//! Where the engines differ it says of the first such call what each of them answered and left, and ends with 1; so it does where no end of file comes by call number length + 2.
+//! Where the engines differ it says of the first such call what each of them answered and left, and ends with 1; so it does where no end of file comes by call number length + 2. It ends with 2 where a document can't be read, or is too long for any reader.
 
 mod beside;
 mod input;
@@ -104,7 +104,7 @@ fn with_all(document: &[u8]) -> Result<usize, Failure> {
         .sum()
 }
 
-/// Reads the document that is named, and says how many calls were compared, or that it is too long.
+/// Reads the document that is named, and says how many calls were compared. One that is too long is told as `events` tells it, and is a failure: no engine read it.
 fn check(file: &OsString, asked: Option<Asked>, out: &mut impl Write) -> Result<(), Failure> {
     let name = file.to_string_lossy();
     let document = input::document(Some(file.clone())).map_err(Failure::Read)?;
@@ -118,8 +118,12 @@ fn check(file: &OsString, asked: Option<Asked>, out: &mut impl Write) -> Result<
             out.flush()?;
             eprintln!("release: {name}: {calls} calls compared");
         }
-        Err(Failure::Refused(number)) => lines::refusal(number, 0, out)?,
-        Err(failure) => return Err(failure),
+        Err(failure) => {
+            if let Failure::Refused(number) = failure {
+                lines::refusal(number, 0, out)?;
+            }
+            return Err(failure);
+        }
     }
     Ok(())
 }

@@ -64,7 +64,7 @@ mod sealed {
 /// assert_eq!(events::<Main>(b"<t>06:15</t>"), 3);
 /// assert_eq!(events::<Plain>(b"<t>06:15</t>"), 3);
 /// ```
-pub trait Engine: sealed::Sealed {
+pub trait Engine: Copy + sealed::Sealed {
     /// The archive's function for this engine: [`lent::read_event`], or [`lent::plain_read_event`].
     fn read_event(document: &[u8], stack: &mut [usize], state: &mut [usize], answer: &mut [usize]) -> usize;
 }
