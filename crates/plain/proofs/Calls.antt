@@ -5,7 +5,6 @@ use mathlib.Core.List.{List}
 use lib.ListN.{length}
 use mir.Val.{Fits}
 use mir.Syntax.{w64}
-use borrow.Author.Needs.{needs}
 use Rattle.state.specs.declared.answer.Values.{Values}
 use Rattle.state.specs.declared.run.Reader.{Reader}
 use Rattle.state.specs.declared.run.Step.{Step}
@@ -40,5 +39,3 @@ module _ (doc stack : List ℕ) (r : Reader) (s : Step) (v : Values) (e : s ≡ 
   -- any other answer
   pub kept : (v .kind ≡ 1 → ⊥) → Stepped doc stack r s stack
   kept n = stepped stack (other-keeps (s .answer) v 1 ev refl stack stack (r .depth .0) n refl)
-
-pub ruleset notes = (needs, name-fits, slots-there, noted, kept)

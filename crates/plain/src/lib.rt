@@ -3,7 +3,7 @@
 // How to read it. `advance` is a call: a bad state is refused (`sound`), an end that is due is told, and else a piece is read (`read`). `read` is the only loop. It
 // holds one value, `Known` (src/known): all that is known of the piece from its bytes so far. Of each byte it asks whether the piece ends there (`Known::ends`), and if not,
 // what is known with that byte (`Known::tick`). It never looks at a byte behind the one that it is at, and takes each byte once. Beside it stands one byte of the open name,
-// which lies before the piece (`same`). Where the piece ends, or the document does, what is known tells the answer (src/told): a function for each kind of piece, in the
+// which lies before it (`same`). Where the piece ends, or the document does, what is known tells the answer (src/told): a function for each kind of piece, in the
 // order in which document 01 refuses.
 //
 // The byte with which a piece ends, or before which it ends, is not taken: what is known is then of the bytes before it. `&` and `|` join tests of which all are made; none of them can fail.
@@ -156,6 +156,7 @@ fn read(reader: Reader, document: &[u8], last: Span, room: Depth, mark: bool) ->
 }
 
 // Whether a byte behind `</` is the one of the open name that stands against it. It is asked of every piece from its third byte on, and counts in a closing tag alone.
+// (Behind the open name's end a byte before this one is read, and does not count.)
 fn same(document: &[u8], known: Known, last: Span, b: u8) -> bool
     requires { ⌜ Faces known last ⌝ }
     ensures { λ r. ⌜ r ≡ sameOf (now (document .entry)) known last b ⌝ }
