@@ -6,7 +6,7 @@ use crate::item::{Fault, Refusal};
 use ground::byte_at;
 use white::trim_start;
 
-#[derive(Drop)]
+#[derive(Clone, Copy)]
 pub enum Equals {
     // What follows begins here.
     Before(usize),

@@ -3,13 +3,13 @@ ghost use Rattle.std.specs.Prelude.{◌≡◌};
 ghost use Rattle.attributes.specs.Answers.{faultNumber, faultQuote, faultFirst, refused as refusedOf, attributeValues, refusal_values, values_of};
 
 // From a place up to another.
-#[derive(Drop)]
+#[derive(Clone, Copy)]
 pub struct Extent {
     pub from: usize,
     pub to: usize,
 }
 
-#[derive(Drop)]
+#[derive(Clone, Copy)]
 pub struct Attribute {
     pub name: Extent,
     // Without its quotes.
@@ -18,7 +18,7 @@ pub struct Attribute {
     pub next: usize,
 }
 
-#[derive(Drop)]
+#[derive(Clone, Copy)]
 pub enum Fault {
     // The name length is not that of the content, or reading from the name does not come to the place.
     BadState,
@@ -34,13 +34,13 @@ pub enum Fault {
     NameUsed(usize),
 }
 
-#[derive(Drop)]
+#[derive(Clone, Copy)]
 pub struct Refusal {
     pub fault: Fault,
     pub place: usize,
 }
 
-#[derive(Drop)]
+#[derive(Clone, Copy)]
 pub enum Item {
     Attribute(Attribute),
     // Only white space is left.
@@ -50,7 +50,7 @@ pub enum Item {
 
 // An answer as numbers. Of an attribute `found` is 1; of none and of a refusal it is 0, and so are the spans and `next`. `number` and `place` are those of
 // the refusal, and 0 where there is none.
-#[derive(Drop)]
+#[derive(Clone, Copy)]
 pub struct Values {
     pub found: usize,
     pub name: Extent,

@@ -1,4 +1,6 @@
 // Attributes (document 02): what stands behind the name in the content of a Start or an Empty. A call reads one; its places count from the content's first byte.
+#![tactic(auto)]
+
 mod equals;
 pub mod find;
 pub mod item;

@@ -5,7 +5,7 @@ ghost use Rattle.attributes.specs.Grammar.{is_quote as isQuoteOf, ends_name as e
 use crate::item::{Extent, Fault, Refusal};
 use white::{is_whitespace, trim_start};
 
-#[derive(Drop)]
+#[derive(Clone, Copy)]
 pub enum Named {
     Name(Extent),
     // Only white space is left.

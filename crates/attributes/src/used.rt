@@ -9,7 +9,7 @@ use crate::name::{Named, name_at};
 use crate::shape::{named, shape_at};
 use ground::{part, same};
 
-#[derive(Drop)]
+#[derive(Clone, Copy)]
 pub enum Use {
     // The name was used here first.
     At(usize),

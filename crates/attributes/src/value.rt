@@ -7,7 +7,7 @@ use crate::name::is_quote;
 use ground::byte_at;
 use white::trim_start;
 
-#[derive(Drop)]
+#[derive(Clone, Copy)]
 pub enum Valued {
     Value(Extent),
     Refused(Refusal),

@@ -1,5 +1,7 @@
 // Many bytes at once: what scans and checks pass in one step. Each loop has a fixed number of turns, no way out of the middle, and carries one value for each
 // question: of such a loop a compiler makes vector code. None asks anything of its caller.
+#![tactic(auto)]
+
 ghost use Rattle.std.specs.Prelude.{◌≡◌, ◌+◌, ◌≤◌, leb, ltb, length};
 ghost use Rattle.ground.specs.Choose.{pick};
 ghost use Rattle.blocks.specs.Blocks.{one_of_three, either_of, block_len, NoneOf, YesWhere, Clears, Flag, LeastOf};

@@ -1,4 +1,6 @@
 // The functions that a host in Rust or C links (include/sporebasket.h): numbers and slices in, numbers out. Each answers 0 or the number of a refusal.
+#![tactic(auto)]
+
 mod bits;
 pub mod slots;
 

@@ -25,7 +25,7 @@ const LAST_SETTINGS: usize = 511;
 const MARK: usize = 5;
 
 // The reader that slots hold.
-#[derive(Drop)]
+#[derive(Clone, Copy)]
 pub enum Held {
     Reader(Reader),
     Nothing,

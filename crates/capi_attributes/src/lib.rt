@@ -1,4 +1,6 @@
 // Attributes for a host in Rust or C (include/sporebasket.h): of a content that is a part of its document. Places are told in the document.
+#![tactic(auto)]
+
 ghost use Rattle.std.specs.Prelude.{◌≡◌, ◌++◌, ◌+◌, ◌<◌, ◌≤◌, ◌^◌, length, drop};
 ghost use Rattle.capi_attributes.specs.Inside.{Movable};
 ghost use Rattle.capi_attributes.specs.Attributes.{bad_values, attribute_slots, item_numbers, moved as movedOf, moved_extent, moved_first, attribute_in, found_in, Told};

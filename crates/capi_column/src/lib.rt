@@ -1,5 +1,7 @@
 // The column reader that a host in Rust or C links (include/sporebasket.h). It stands in a crate of its own, beside `capi`, so that each is compiled by itself: the
 // reader is then part of the one function that calls it, in both.
+#![tactic(auto)]
+
 ghost use Rattle.std.specs.Prelude.{◌≡◌, ◌≤◌, length};
 ghost use Rattle.columns.specs.Column.{filled_with};
 ghost use Rattle.capi_column.specs.Columns.{bad_number, summary_numbers, column_slots, ColumnRead};

@@ -1,4 +1,6 @@
 // References as characters, for a host in Rust or C (include/sporebasket.h).
+#![tactic(auto)]
+
 ghost use Rattle.std.specs.Prelude.{◌≡◌, ◌++◌, ◌≤◌, length, drop};
 ghost use Rattle.escape.specs.Text.{one_text, whole_text};
 ghost use Rattle.capi_escape.specs.Told.{unescape_slots, numbers_of, Told};

@@ -1,4 +1,6 @@
 // Scans that are fed in pieces, for a host in Rust or C (include/sporebasket.h).
+#![tactic(auto)]
+
 mod slots;
 
 ghost use Rattle.capi_pieces.specs.Scans.{Begun, Fed};

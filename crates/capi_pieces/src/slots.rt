@@ -10,7 +10,7 @@ use pieces::scan::{Kind, Scan, State, What, fresh};
 pub const SCAN_SLOTS: usize = 4;
 
 // The scan that slots hold.
-#[derive(Drop)]
+#[derive(Clone, Copy)]
 pub enum Held {
     Scan(Scan),
     Nothing,

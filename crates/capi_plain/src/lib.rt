@@ -1,4 +1,6 @@
 // The plain engine for a host in Rust or C (include/sporebasket.h): lent and answered as `sporebasket_read_event` of `capi` is.
+#![tactic(auto)]
+
 ghost use Rattle.capi.specs.Calls.{Called};
 
 use capi::slots::{ANSWER_SLOTS, Held, bad, load, move_on, tell};

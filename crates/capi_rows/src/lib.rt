@@ -1,4 +1,6 @@
 // The way down for a host in Rust or C (include/sporebasket.h): the names that are open, three slots to each.
+#![tactic(auto)]
+
 ghost use Rattle.std.specs.Prelude.{◌+◌, ◌*◌, ◌≤◌, ◌≡◌, length};
 ghost use Rattle.capi_rows.specs.Rows.{row_slots, row_put, Filling, RowTold, RowsTold};
 

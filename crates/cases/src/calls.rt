@@ -93,7 +93,7 @@ fn all(fresh: Reader, document: &[u8], stack: &mut [usize], plain: bool) {
 }
 
 // A reader after a call, and whether the call answered end of file.
-#[derive(Drop)]
+#[derive(Clone, Copy)]
 struct Turn {
     reader: Reader,
     ended: bool,

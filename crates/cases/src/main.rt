@@ -15,6 +15,8 @@
 // second number. SETTINGS are letters of `settings.rt` or `-`. PHASE has a `!` in front where the mark is on, in the answers too. SLOTS is how many slots
 // the lent stack has, at most as many as `calls.rt` has (for `column`, `row` and `rows` 16, for `outermost` 20). VALUES, with commas or `-`, are what its first ones hold. ROOM is at most 16. In BYTES `\` and two hexadecimal digits
 // stand for a byte. STATE is a word that `feeds.rt` has. Any other line is written as it is. The cases together have fewer than 327,680 bytes.
+#![tactic(auto)]
+
 mod calls;
 mod feeds;
 mod leaves;

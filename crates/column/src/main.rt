@@ -1,6 +1,8 @@
 // Lists the times of a document from standard input, a time to a line. Then comes a refusal, if there is one: `refused` with its number and place. The last
 // line has how many times there are and `in order`, or `lower at` and the first index, from 0, that is lower than the one before it. The document has at most
 // 65,536 bytes, and 64 names may be open.
+#![tactic(auto)]
+
 use columns::column as read_column;
 use columns::order::Order;
 use columns::spell::spell;

@@ -1,4 +1,6 @@
 // The column reader: the times of a document's elements `t`, in a lent column. A library above the reader, proved from its promise and the theorems of `demands`.
+#![tactic(auto)]
+
 mod names;
 pub mod order;
 pub mod outcome;
@@ -21,7 +23,7 @@ use state::config::Config;
 use state::run::{Made, Reader};
 
 // What is answered of a column.
-#[derive(Drop)]
+#[derive(Clone, Copy)]
 pub struct Summary {
     // How many times were filled in.
     pub count: usize,

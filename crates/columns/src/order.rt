@@ -2,7 +2,7 @@
 ghost use Rattle.std.specs.Prelude.{◌≡◌};
 ghost use Rattle.columns.specs.Order.{order_of, lower_number};
 
-#[derive(Drop)]
+#[derive(Clone, Copy)]
 pub enum Order {
     // No time is lower than the one before it.
     Kept,

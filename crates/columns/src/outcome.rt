@@ -5,7 +5,7 @@ ghost use Rattle.columns.specs.Outcome.{is_refused, refusal_of, values_of};
 use state::answer::{Refusal, Values};
 use state::place::Span;
 
-#[derive(Drop)]
+#[derive(Clone, Copy)]
 pub enum Outcome {
     // The whole document was read.
     Whole,

@@ -6,7 +6,7 @@ use ground::part;
 use white::{trim_end, trim_start};
 
 // What text tells.
-#[derive(Drop)]
+#[derive(Clone, Copy)]
 pub enum Text {
     // It is empty, or white space alone.
     Empty,

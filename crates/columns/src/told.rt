@@ -14,7 +14,7 @@ use state::answer::{Answer, Kind};
 use state::place::{Depth, Span};
 
 // What an answer tells.
-#[derive(Drop)]
+#[derive(Clone, Copy)]
 pub enum Told {
     Nothing,
     // A time, in this piece.
@@ -24,7 +24,7 @@ pub enum Told {
 }
 
 // How many times are filled in, and what refuses the rest.
-#[derive(Drop)]
+#[derive(Clone, Copy)]
 pub struct Filled {
     pub count: usize,
     pub outcome: Outcome,

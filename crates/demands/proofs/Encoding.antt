@@ -35,7 +35,7 @@ module _ (doc stack : List ℕ) (r : Reader) where
   answer = (step doc stack r).answer
 
   -- THEOREM: 13 has as its place "the first byte of the first ill-formed sequence" of its piece: it lies in the piece, all of the piece before it is well
-  -- formed, and no well_formed character starts there
+  -- formed, and no well-formed character starts there
   pub ill_formed_bytes_are_refused_at_the_first : isEncoding answer ≡ true → FirstIll doc (values_of answer).piece (values_of answer).place
   unfolding bad_state
   ill_formed_bytes_are_refused_at_the_first e =

@@ -34,7 +34,7 @@ use Rattle.escape.proofs.Replacing.{word_alone, fails_refused, replaced_before, 
 
 -- ---- the UTF-8 writer
 
--- The bytes of a scalar value are one well_formed character, and reading them back, whatever comes after them, gives one character of that length.
+-- The bytes of a scalar value are one well-formed character, and reading them back, whatever comes after them, gives one character of that length.
 pub what_is_written_is_one_character : (v : ℕ) → is_scalar v ≡ true → Char (octets v)
 what_is_written_is_one_character = bytes_char
 
@@ -164,7 +164,7 @@ enough_room_is_never_refused content size at place h e =
     needs rest g (byte b n l) = omega arith
     needs rest g (end l) = omega arith
 
--- ---- well_formed UTF-8
+-- ---- well-formed UTF-8
 
 -- A byte up to 7F is a character by itself: what stands before it and what stands behind it are well formed.
 module _ (a : ℕ) (low : a ≤ 0x7F) where
@@ -202,7 +202,7 @@ well_formed_behind (reference {bs = bs} {out = out} c v w e r) before o =
     let g = cut_at_ascii semicolon (omega arith) f.1 c bs refl in
     octets_join f.0 (char (bytes_char v (what_is_named_is_a_character c v e).1) (well_formed_behind r [] g.1))
 
--- A well_formed content gives well_formed UTF-8.
+-- A well-formed content gives well-formed UTF-8.
 pub well_formed_content_gives_well_formed_text : {content out : List ℕ} → Replaced content out → Octets content → Octets out
 well_formed_content_gives_well_formed_text r o = well_formed_behind r [] o
 
@@ -252,7 +252,7 @@ what_a_call_writes content buffer at n buffer' p = by (whole_text content (lengt
           outside = λ k o. ap (λ (l : List ℕ). get_or l k 0) g ∙ every_byte_outside_the_run_stays buffer at out h k (subst (λ (j : ℕ). (k < at) ⊎ (at + j ≤ k)) m o);
         }
 
--- of well_formed content the bytes that it writes are well formed;
+-- of well-formed content the bytes that it writes are well formed;
 pub what_a_call_writes_is_well_formed : (content buffer : List ℕ) (at n : ℕ) (buffer' : List ℕ) → Octets content → Put (whole_text content (length buffer) at) buffer at (Written.Bytes n) buffer' → Octets (take n (drop at buffer'))
 what_a_call_writes_is_well_formed content buffer at n buffer' o p =
     let w = what_a_call_writes content buffer at n buffer' p in

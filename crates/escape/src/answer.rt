@@ -2,7 +2,7 @@
 ghost use Rattle.std.specs.Prelude.{◌≡◌};
 ghost use Rattle.escape.specs.Answers.{faultNumber, refused as refusedOf, refusal_values, values_of};
 
-#[derive(Drop)]
+#[derive(Clone, Copy)]
 pub enum Fault {
     // Neither a character reference nor one of the five names.
     NotOfForm,
@@ -12,14 +12,14 @@ pub enum Fault {
     NoRoom,
 }
 
-#[derive(Drop)]
+#[derive(Clone, Copy)]
 pub struct Refusal {
     pub fault: Fault,
     // Counted in the content: the `&`, or the byte that does not fit. Of one reference it is 0.
     pub place: usize,
 }
 
-#[derive(Drop)]
+#[derive(Clone, Copy)]
 pub enum Written {
     // So many bytes, from the place that was given on.
     Bytes(usize),
@@ -28,7 +28,7 @@ pub enum Written {
 }
 
 // An answer as numbers. Of bytes `number` and `place` are 0; of a refusal `count` is 0.
-#[derive(Drop)]
+#[derive(Clone, Copy)]
 pub struct Values {
     pub count: usize,
     pub number: usize,

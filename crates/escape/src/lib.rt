@@ -1,4 +1,6 @@
 // References as characters (XML 1.0, section 4.6, and productions 66 and 2): of one reference, and of a whole text.
+#![tactic(auto)]
+
 pub mod answer;
 pub mod reference;
 pub mod scalar;

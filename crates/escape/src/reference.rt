@@ -7,7 +7,7 @@ ghost use Rattle.escape.specs.Inside.{past};
 use crate::scalar::is_char;
 use ground::{same, starts_with};
 
-#[derive(Drop)]
+#[derive(Clone, Copy)]
 pub enum Reference {
     Character(u32),
     // Neither a character reference nor one of the five names.

@@ -12,7 +12,7 @@ use blocks::neither;
 use ground::part;
 
 // What a reference in a text is: a character and where the text goes on behind it, or what refuses it.
-#[derive(Drop)]
+#[derive(Clone, Copy)]
 pub enum Found {
     Character { value: u32, next: usize },
     Refused(Fault),

@@ -1,5 +1,7 @@
 // Lists the events of a document from standard input. Each answer has a line: the event's word and its piece, content and name length, or `refused` with
 // the refusal's number and place. The document has at most 65,536 bytes, and 64 names may be open.
+#![tactic(auto)]
+
 mod line;
 
 use libc::STDIN_FILENO;

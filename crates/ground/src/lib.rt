@@ -1,4 +1,6 @@
 // What every crate stands on: a byte of a slice, a part of it that is asked for by its ends, and comparisons of bytes.
+#![tactic(auto)]
+
 ghost use Rattle.std.specs.Prelude.{◌≡◌, ◌+◌, ◌≤◌, length, get_or, drop};
 ghost use Rattle.ground.specs.Alike.{Alike};
 ghost use Rattle.ground.specs.Equal.{begins, same as same_of};

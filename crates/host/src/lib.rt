@@ -1,4 +1,6 @@
 // The thin call: a reader that is lent is moved on in place.
+#![tactic(auto)]
+
 ghost use Rattle.host.specs.Read.{Read};
 
 use reader::advance;

@@ -29,7 +29,7 @@ pub fn word(s: &[u8], from: usize) -> usize {
 }
 
 // A number, and where it ended.
-#[derive(Drop)]
+#[derive(Clone, Copy)]
 pub struct Read {
     pub value: usize,
     pub next: usize,
@@ -118,7 +118,7 @@ pub fn bytes(s: &[u8], from: usize, out: &mut [u8]) -> usize
 }
 
 // A byte, and how many digits belong to it.
-#[derive(Drop)]
+#[derive(Clone, Copy)]
 struct Spelt {
     value: u8,
     digits: usize,

@@ -6,7 +6,7 @@ ghost use Rattle.parser.specs.Passed.{Passes};
 use blocks::clear;
 
 // Where the scan stands: outside quotes, or within one of the two kinds.
-#[derive(Drop)]
+#[derive(Clone, Copy)]
 pub enum ElementState {
     Outside,
     SingleQ,
@@ -14,7 +14,7 @@ pub enum ElementState {
 }
 
 // The closing byte's position, or the state in which the bytes ended.
-#[derive(Drop)]
+#[derive(Clone, Copy)]
 pub enum Found {
     At(usize),
     Open(ElementState),

@@ -1,7 +1,7 @@
 // The answer of a scan for the first byte of a kind.
 
 // The byte's position, or that the bytes ended without one.
-#[derive(Drop)]
+#[derive(Clone, Copy)]
 pub enum Found {
     At(usize),
     End,

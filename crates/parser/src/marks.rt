@@ -7,14 +7,14 @@ ghost use Rattle.parser.specs.Passed.{Skips};
 use blocks::clear;
 
 // Where the scan stands: how many bytes of the opener are yet to pass, and how many marks stand just before, counted up to those needed.
-#[derive(Drop)]
+#[derive(Clone, Copy)]
 pub struct Marks {
     pub left: usize,
     pub seen: usize,
 }
 
 // The closing byte's position, or the state in which the bytes ended.
-#[derive(Drop)]
+#[derive(Clone, Copy)]
 pub enum Found {
     At(usize),
     Open(Marks),

@@ -14,7 +14,7 @@ use parser::reference::reference_end;
 use parser::{element, first, marks};
 
 // The place that is found, in these bytes, or what the scan is in where they end.
-#[derive(Drop)]
+#[derive(Clone, Copy)]
 pub enum Ahead {
     At(usize),
     Open(State),

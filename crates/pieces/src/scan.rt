@@ -8,7 +8,7 @@ use parser::marks::Marks;
 use state::answer::Error;
 
 // What ends with marks just before its `>`.
-#[derive(Drop)]
+#[derive(Clone, Copy)]
 pub enum Kind {
     Pi,
     Comment,
@@ -16,7 +16,7 @@ pub enum Kind {
 }
 
 // What is scanned: a piece that its own bytes tell, a tag, what ends with marks, or text. Each but text from its first byte on.
-#[derive(Drop)]
+#[derive(Clone, Copy)]
 pub enum What {
     Piece,
     Tag,
@@ -25,7 +25,7 @@ pub enum What {
 }
 
 // What a scan is in.
-#[derive(Drop)]
+#[derive(Clone, Copy)]
 pub enum State {
     // Nothing has come: the first byte tells what the piece is.
     Start,
@@ -41,14 +41,14 @@ pub enum State {
 }
 
 // The place that was found, counted from the first byte that was fed; or how many bytes were fed, and what the scan is in.
-#[derive(Drop)]
+#[derive(Clone, Copy)]
 pub enum Scan {
     Closed(usize),
     Open { taken: usize, state: State },
 }
 
 // What a call tells: the place, that it is not found yet, or a refusal.
-#[derive(Drop)]
+#[derive(Clone, Copy)]
 pub enum Told {
     At(usize),
     Open,
@@ -56,7 +56,7 @@ pub enum Told {
 }
 
 // What a call answers: where the scan stands after it, and what it tells.
-#[derive(Drop)]
+#[derive(Clone, Copy)]
 pub struct Fed {
     pub scan: Scan,
     pub told: Told,

@@ -9,7 +9,7 @@ use state::place::Span;
 use white::is_whitespace;
 
 // What a piece is, as far as its first bytes tell.
-#[derive(Drop)]
+#[derive(Clone, Copy)]
 pub enum Part {
     // None of its bytes was read.
     Nothing,
@@ -33,7 +33,7 @@ pub enum Part {
 }
 
 // The character at hand (RFC 3629, section 4).
-#[derive(Drop)]
+#[derive(Clone, Copy)]
 pub struct Letters {
     // How many bytes it owes; 0 between characters.
     pub owed: usize,
@@ -44,7 +44,7 @@ pub struct Letters {
     pub at: usize,
 }
 
-#[derive(Drop)]
+#[derive(Clone, Copy)]
 pub struct Known {
     pub part: Part,
     // Where the piece begins, and where its next byte would stand.

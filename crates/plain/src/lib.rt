@@ -9,6 +9,8 @@
 // The byte with which a piece ends, or before which it ends, is not taken: what is known is then of the bytes before it. `&` and `|` join tests of which all are made; none of them can fail.
 // What else is called: `byte_at` of `ground` (0 past the end), `is_whitespace` of `white`, and of `state` the limits, `Span::size` and `Span::inner`, and the makers that write a reader's
 // fields (`event`, `refuse`, `stop`, `end`, `bad`, `with_depth`); `end` tells end of file, or 18.
+#![tactic(auto)]
+
 mod known;
 mod told;
 

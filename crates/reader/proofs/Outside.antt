@@ -152,7 +152,7 @@ record Fits (doc : List ℕ) (r : Reader) (piece : Span) : Type 0 where
   pub within : piece.to ≤ length doc
   pub passed : PassesOver doc r piece.from
 
--- a well_formed one with bytes, where the reader is not done
+-- a well-formed one with bytes, where the reader is not done
 record Some (doc : List ℕ) (r : Reader) (piece : Span) : Type 0 where
   pub has : piece.from < piece.to
   pub near : length doc - piece.from + 1 ≤ rank doc r

@@ -102,6 +102,6 @@ pub record Stepped (doc stack : List ℕ) (r : Reader) (s : Step) (after : List 
 
 -- ---- the place of 13 in words
 
--- "the least position from which no well_formed character of RFC 3629 starts, all before it being well formed", in a piece
+-- "the least position from which no well-formed character of RFC 3629 starts, all before it being well formed", in a piece
 abbrev pub FirstIll : List ℕ → Span → ℕ → Type 0
 FirstIll doc piece = Least (IllAt doc piece.from piece.to)

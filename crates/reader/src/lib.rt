@@ -1,4 +1,6 @@
 // The reader: one call at a time, from bytes to an event, end of file or a refusal.
+#![tactic(auto)]
+
 mod cut;
 mod names;
 pub mod piece;

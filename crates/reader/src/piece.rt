@@ -4,7 +4,7 @@ use state::place::Span;
 use state::run::Phase;
 
 // What a piece is read as. `LastText` is text up to the document's end, `Dangling` a reference without its `;`.
-#[derive(Drop)]
+#[derive(Clone, Copy)]
 pub enum Shape {
     Text,
     LastText,
@@ -18,7 +18,7 @@ pub enum Shape {
 }
 
 // A piece, and the phase that comes after it.
-#[derive(Drop)]
+#[derive(Clone, Copy)]
 pub struct Piece {
     pub shape: Shape,
     pub span: Span,
@@ -26,14 +26,14 @@ pub struct Piece {
 }
 
 // A piece, or the refusal where there is none.
-#[derive(Drop)]
+#[derive(Clone, Copy)]
 pub enum Cut {
     Piece(Piece),
     Stop(Refusal),
 }
 
 // What is due: a piece, from the place where it starts; the end of an empty element; or nothing more.
-#[derive(Drop)]
+#[derive(Clone, Copy)]
 pub enum Due {
     Piece(usize),
     EmptyEnd,

@@ -9,6 +9,8 @@
 //   reference TAG BYTES                           the content of one reference
 // SETTINGS, SLOTS and BYTES are written as for `cases`. Where a call differs, a line that begins with `crate` stands above our own and has what the crate
 // says, worked out from our answer as that row states. A line that begins with `#` is passed over. The cases have fewer than 327,680 bytes.
+#![tactic(auto)]
+
 mod calls;
 mod place;
 mod references;

@@ -49,7 +49,7 @@ const UNKNOWN: usize = 25 * ERROR + 1;
 const NO_CHARACTER: usize = 26 * ERROR;
 
 // That of a single reference, or of the one that ends a text, and the place of its `&`; 0 and the text's length where none ends it.
-#[derive(Drop)]
+#[derive(Clone, Copy)]
 struct Told {
     code: usize,
     place: usize,

@@ -1,5 +1,7 @@
 // The way down to where a reader stands: the names that are open, the outermost first. Of a reader its position and the count of its names are looked at, and of
 // the stack the entries that are asked for.
+#![tactic(auto)]
+
 pub mod row;
 
 ghost use Rattle.std.specs.Prelude.{◌≡◌, min};

@@ -6,7 +6,7 @@ use state::answer::Error;
 use state::place::{Depth, Position};
 
 // Where the name starts and ends in the document, and how deep it lies: the outermost at 1.
-#[derive(Drop)]
+#[derive(Clone, Copy)]
 pub struct Row {
     pub start: Position,
     pub end: Position,
@@ -14,14 +14,14 @@ pub struct Row {
 }
 
 // One record.
-#[derive(Drop)]
+#[derive(Clone, Copy)]
 pub enum Given {
     Row(Row),
     BadState,
 }
 
 // How many records of a list were filled.
-#[derive(Drop)]
+#[derive(Clone, Copy)]
 pub enum Filled {
     Rows(usize),
     BadState,

@@ -4,7 +4,7 @@ ghost use Rattle.state.specs.Values.{kind_number, spanless as spanlessOf, number
 
 use crate::place::{Position, Span};
 
-#[derive(Drop)]
+#[derive(Clone, Copy)]
 pub enum Kind {
     Start,
     End,
@@ -18,7 +18,7 @@ pub enum Kind {
     Eof,
 }
 
-#[derive(Drop)]
+#[derive(Clone, Copy)]
 pub struct Event {
     pub kind: Kind,
     pub piece: Span,
@@ -27,7 +27,7 @@ pub struct Event {
     pub name: usize,
 }
 
-#[derive(Drop)]
+#[derive(Clone, Copy)]
 pub enum Error {
     UnclosedTag,
     UnclosedSingleQuotedAttributeValue,
@@ -49,21 +49,21 @@ pub enum Error {
     UnclosedElements,
 }
 
-#[derive(Drop)]
+#[derive(Clone, Copy)]
 pub struct Refusal {
     pub error: Error,
     pub place: Position,
     pub piece: Span,
 }
 
-#[derive(Drop)]
+#[derive(Clone, Copy)]
 pub enum Answer {
     Event(Event),
     Refused(Refusal),
 }
 
 // A refusal's number; of a mismatch the name that was open and the one in the closing tag; of an unmatched end the one in the closing tag.
-#[derive(Drop)]
+#[derive(Clone, Copy)]
 pub struct Numbered {
     pub number: usize,
     pub expected: Span,
@@ -72,7 +72,7 @@ pub struct Numbered {
 
 // An answer as numbers. Of an event `number` and `place` are 0; of a refusal `kind`, `content` and `name` are; and of every answer but the two with spans of
 // their own `expected` and `found` are.
-#[derive(Drop)]
+#[derive(Clone, Copy)]
 pub struct Values {
     pub kind: usize,
     pub number: usize,

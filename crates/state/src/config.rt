@@ -2,7 +2,7 @@
 ghost use Rattle.std.specs.Prelude.{◌≡◌};
 ghost use Rattle.state.specs.Settings.{defaults, trim_text, all_checks};
 
-#[derive(Drop)]
+#[derive(Clone, Copy)]
 pub struct Config {
     // A `&` without its `;` is text.
     pub allow_dangling_amp: bool,

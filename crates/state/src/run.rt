@@ -8,7 +8,7 @@ use crate::limits::LONGEST;
 use crate::place::{Depth, Position, Span};
 
 // What the next bytes are read as.
-#[derive(Drop)]
+#[derive(Clone, Copy)]
 pub enum Phase {
     Init,
     InsideText,
@@ -18,7 +18,7 @@ pub enum Phase {
     Done,
 }
 
-#[derive(Drop)]
+#[derive(Clone, Copy)]
 pub struct Reader {
     pub phase: Phase,
     pub position: Position,
@@ -32,14 +32,14 @@ pub struct Reader {
 }
 
 // What a call answers, and the reader after it.
-#[derive(Drop)]
+#[derive(Clone, Copy)]
 pub struct Step {
     pub reader: Reader,
     pub answer: Answer,
 }
 
 // A reader, or why there is none.
-#[derive(Drop)]
+#[derive(Clone, Copy)]
 pub enum Made {
     Fresh(Reader),
     Refused(Refusal),

@@ -1,1 +1,3 @@
 // No code: the statements of the demands, computed on examples.
+#![tactic(auto)]
+

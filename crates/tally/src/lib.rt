@@ -1,4 +1,6 @@
 // What a whole document opens and closes: a library above the reader, proved from the reader's promises alone.
+#![tactic(auto)]
+
 ghost use Rattle.std.specs.Prelude.{◌≡◌, eqb};
 ghost use Rattle.ground.specs.Choose.{pick};
 ghost use Rattle.tally.specs.Tally.{Summed};
@@ -10,7 +12,7 @@ use state::place::Depth;
 use state::run::{Made, Reader};
 
 // What the calls answered, and what they left open.
-#[derive(Drop)]
+#[derive(Clone, Copy)]
 pub struct Counts {
     // Starts.
     pub openings: usize,
@@ -23,7 +25,7 @@ pub struct Counts {
 }
 
 // The counts, or why there is no reader.
-#[derive(Drop)]
+#[derive(Clone, Copy)]
 pub enum Tallied {
     Counted(Counts),
     Refused(Refusal),

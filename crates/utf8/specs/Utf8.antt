@@ -45,7 +45,7 @@ unfoldable pub row_len : List (List Range) → List ℕ → ℕ
 row_len [] bs = 0
 row_len (r ∷ rs) bs = pick (in_ranges r bs) (length r) (row_len rs bs)
 
--- the length of the well_formed character that the bytes begin with, or 0
+-- the length of the well-formed character that the bytes begin with, or 0
 abbrev pub char_len : List ℕ → ℕ
 char_len bs = row_len rows bs
 
@@ -93,13 +93,13 @@ pub data Octets : List ℕ → Type 0 where
   none : Octets []
   char : {c bs : List ℕ} → Char c → Octets bs → Octets (c ++ bs)
 
--- a position from which no well_formed character starts, all before it being well formed
+-- a position from which no well-formed character starts, all before it being well formed
 pub record Stuck (bs : List ℕ) (p : ℕ) : Type 0 where
   pub within : p < length bs
   pub before : Octets (take p bs)
   pub no_char : (n : ℕ) → Char (take n (drop p bs)) → ⊥
 
--- such a place in a part of a document: it lies in the part, and the part in the document; all of the part before it is well formed, and no well_formed
+-- such a place in a part of a document: it lies in the part, and the part in the document; all of the part before it is well formed, and no well-formed
 -- character of the document starts there
 pub record IllAt (doc : List ℕ) (from to place : ℕ) : Type 0 where
   pub after : from ≤ place

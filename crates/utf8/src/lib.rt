@@ -1,4 +1,6 @@
 // The UTF-8 check (RFC 3629, section 4).
+#![tactic(auto)]
+
 ghost use Rattle.std.specs.Prelude.{◌≡◌, ◌∷◌, ◌+◌, ◌-◌, ◌≤◌, ◌<◌, min, length, get_or, drop, replicate};
 ghost use Rattle.ground.specs.Choose.{pick};
 ghost use Rattle.ground.specs.Part.{part as part_of};
@@ -10,7 +12,7 @@ use ground::byte_at;
 
 // What the check says of bytes: all are well formed, or where the first ill-formed sequence begins. No well-formed character starts there, and all before it
 // is well formed.
-#[derive(Drop)]
+#[derive(Clone, Copy)]
 pub enum Utf8 {
     WellFormed,
     IllFormed(usize),

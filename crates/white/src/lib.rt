@@ -1,4 +1,6 @@
 // White space (XML 1.0, production 3), and the runs of bytes that it bounds.
+#![tactic(auto)]
+
 ghost use Rattle.std.specs.Prelude.{◌≡◌, ◌+◌, ◌-◌, ◌≤◌, leb, length, drop};
 ghost use Rattle.ground.specs.Part.{part as part_of};
 ghost use Rattle.white.specs.White.{is_white, name_len, leading, kept_of, kept};
