@@ -41,7 +41,7 @@ loop-i-smaller c = search uses
 
 pub loop-i-preserved : goal.loop-i-preserved
 loop-i-preserved c = pass_turn _ _ _ _ _ c.loop-i.invariant c.loop-i-test.true _ c.shape_at.ensures _
-    c.attribute-1.given.1 _ _ _ c.part.ensures.bytes c.part-wanted.ensures.bytes c.same.ensures c.if-same.false
+    c.in-Attribute.is _ _ _ c.part.ensures.bytes c.part-wanted.ensures.bytes c.same.ensures c.if-same.false
 
 pub returns : goal.returns
 returns c = search uses
