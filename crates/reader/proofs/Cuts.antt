@@ -122,11 +122,13 @@ phase_lands doc end among =
     other : (get_or doc end 0 ≡ lt → ⊥) → Among text_ends (get_or doc end 0) → get_or doc end 0 ≡ amp
     other n (inl h) = absurd (n h)
     other n (inr (inl h)) = h
+    other n (inr (inr x'')) = elim x'' [ ]
 
 -- no character goes across a place with a `<` or `&`, the document's end, or a place right behind a byte up to 7F
 text_border : (doc : List ℕ) (end : ℕ) → Among text_ends (get_or doc end 0) → Border doc end
 text_border doc end (inl e) = inl (omega arith)
 text_border doc end (inr (inl e)) = inl (omega arith)
+text_border doc end (inr (inr x'')) = elim x'' [ ]
 
 last_border : (doc : List ℕ) → Border doc (length doc)
 last_border doc = inl (omega (arith, byte_past doc (length doc) (omega arith)))
@@ -178,6 +180,7 @@ module _ (doc : List ℕ) (from : ℕ) where
         here : Among text_ends (get_or doc from 0) → ⊥
         here (inl e) = l e
         here (inr (inl e)) = a e
+        here (inr (inr x'')) = elim x'' [ ]
 
     pub ref_cut : get_or doc from 0 ≡ amp → Here (cut_ref doc from)
     unfolding cut_ref
@@ -195,6 +198,7 @@ module _ (doc : List ℕ) (from : ℕ) where
         not_first n (inl e) = absurd (n e)
         not_first n (inr (inl e)) = inr (inl e)
         not_first n (inr (inr (inl e))) = inl e
+        not_first {b = b} n (inr (inr (inr x3))) = elim x3 [ ]
 
     -- a piece up to the `>` at p, which was found
     closed : (shape : Shape) (p : ℕ) → from + fewest shape ≤ p + 1 → p < length doc → get_or doc p 0 ≡ gt

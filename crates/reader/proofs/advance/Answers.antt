@@ -14,5 +14,4 @@ shape_of-stack c = search rules
 
 pub returns : goal.returns
 returns c =
-    let d = c.before in
-    record { outcome = d.decide.ensures; slots = rw (← d.decide.ensures) c.note.ensures }
+    record { outcome = c.decide-step.ensures; slots = rw (← c.decide-step.ensures) c.note.ensures }
