@@ -1,3 +1,2 @@
 // No code: the statements of the demands, computed on examples.
 #![tactic(auto)]
-
