@@ -7,12 +7,12 @@ use Rattle.state.specs.declared.answer.Answer.{Answer}
 use Rattle.state.specs.Settings.{defaults}
 use Rattle.state.specs.Values.{kind_number, values_of}
 use Rattle.reader.specs.Names.{bytes}
-use Rattle.demands.specs.Answers.{isEof, latestIs}
+use Rattle.demands.specs.Answers.{is_eof, latest_is}
 use Rattle.demands.specs.Run.{World, said, call, run}
 
 -- Eof or a refusal
 abbrev pub is_last : Answer → Bool
-is_last a = pick (isEof a) true (eqb (values_of a).kind 0)
+is_last a = pick (is_eof a) true (eqb (values_of a).kind 0)
 
 -- calls up to the first that answers so, n at the most
 unfoldable pub read_on : List ℕ → ℕ → World → World
@@ -63,4 +63,4 @@ events doc stack = sooner (heard doc stack)
 
 -- it reads without a refusal
 abbrev pub readable : List ℕ → List ℕ → Bool
-readable doc stack = latestIs isEof (reading doc stack).answers
+readable doc stack = latest_is is_eof (reading doc stack).answers

@@ -22,7 +22,7 @@ use Rattle.capi.specs.Numbers.{phase_of, config_of, state_numbers, state_slots, 
 use Rattle.capi.specs.Slots.{put}
 use Rattle.capi.specs.Calls.{answer_to, lent_to, stack_to, state_to, Called}
 use Rattle.capi.specs.Hosts.{Holds}
-use Rattle.capi.proofs.Rounds.{holds as slots-hold}
+use Rattle.capi.proofs.Rounds.{holds as slots_hold}
 use Rattle.arrivals.specs.Whole.{Stands, Whole, lengthened, lengthened_step}
 use Rattle.arrivals.specs.Hosts.{with_length}
 use Rattle.arrivals.proofs.Arrivals.{a_call_on_the_bytes_so_far_is_the_call_on_the_whole_document}
@@ -39,7 +39,7 @@ tested n false false false x r e = let f : x ≡ r = cc in ap (λ (y : Reader). 
 
 -- fewer slots hold none
 short : {A : Type 0} (state : List ℕ) (r : Reader) → length state < state_slots → Holds state r → A
-short state r l e = absurd (omega (arith, (slots-hold state r e).0))
+short state r l e = absurd (omega (arith, (slots_hold state r e).0))
 
 -- THEOREM: slots that hold a reader hold it over a document of n bytes, once the slot of the length has that number
 pub with_its_length_set_a_state_holds_the_reader_lengthened : (n : ℕ) (state : List ℕ) (r : Reader) → Holds state r → Holds (with_length n state) (lengthened n r)
@@ -93,7 +93,7 @@ module _ (doc more stack state answer : List ℕ) (r : Reader) (holds : Holds st
         ap (λ (s : Step). s.answer) e,
         ap (λ (s : Step). written stack r.depth.0 s.answer) e,
         ap₂ (λ (was : ℕ) (s : Step). put (with_length n state) (state_numbers was s.reader)) (mark_kept n state) e
-            ∙ put_length n (mark_slot state) state (step doc stack r).reader (slots-hold state r holds).0,
+            ∙ put_length n (mark_slot state) state (step doc stack r).reader (slots_hold state r holds).0,
       )
 
   lent_to_lem : Lent (lent_to state answer) (lent_to (with_length n state) answer)

@@ -20,7 +20,7 @@ use Rattle.state.specs.Make.{fresh, made, bad_state}
 use Rattle.reader.specs.Sound.{sound}
 use Rattle.pieces.specs.declared.scan.What.{What}
 use Rattle.pieces.specs.declared.scan.Told.{Told}
-use Rattle.pieces.specs.Fed.{fed, fresh as fresh-scan}
+use Rattle.pieces.specs.Fed.{fed, fresh as fresh_scan}
 use Rattle.reader.specs.Step.{begin, skipped, step}
 use Rattle.reader.proofs.Outside.{step_turn}
 use Rattle.demands.specs.Run.{World, run}
@@ -125,7 +125,7 @@ module _ (Kept : Promise) (advances : Advances Kept) (doc stack : List ℕ) (c :
 -- ---- there are such calls
 
 -- the scan tells whether a piece is whole
-closes_or : (bytes : List ℕ) (t : Told) → (fed (fresh-scan What.Piece) bytes).told ≡ t → Closes bytes ⊎ Unit {0}
+closes_or : (bytes : List ℕ) (t : Told) → (fed (fresh_scan What.Piece) bytes).told ≡ t → Closes bytes ⊎ Unit {0}
 closes_or bytes (Told.At place) e = inl (record { place = place; tells = e })
 closes_or bytes Told.Open e = inr tt
 closes_or bytes (Told.Refused error) e = inr tt

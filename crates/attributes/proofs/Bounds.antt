@@ -21,7 +21,7 @@ use Rattle.attributes.specs.declared.item.Item.{Item}
 use Rattle.attributes.specs.declared.name.Named.{Named}
 use Rattle.attributes.specs.declared.used.Use.{Use}
 use Rattle.attributes.specs.declared.value.Valued.{Valued}
-use Rattle.attributes.specs.Answers.{faultNumber, faultFirst, bad_state, values_of}
+use Rattle.attributes.specs.Answers.{fault_number, fault_first, bad_state, values_of}
 use Rattle.attributes.specs.Grammar.{is_quote, equals_sign, byte, past, name_end, value_end, name_from, name_at, equals_at, quoted_from, value_at, with_value, with_equals, named}
 use Rattle.attributes.specs.Tag.{bytes, or_else, use_in, unless_used, with_use, item_at, on_at, read_by, place, said, is_at, calls_to, attribute_at, first_call, ends_at, find_of}
 use Rattle.attributes.specs.Words.{SpaceName, PlacesIn}
@@ -32,7 +32,7 @@ module _ (s : List ℕ) where
   -- ---- the place of a refusal by the grammar
 
   abbrev RefusalIn : Refusal → Type 0
-  RefusalIn x = (x.place ≤ length s) × (faultFirst x.fault ≤ length s) × (faultNumber x.fault ≡ 17 → ⊥)
+  RefusalIn x = (x.place ≤ length s) × (fault_first x.fault ≤ length s) × (fault_number x.fault ≡ 17 → ⊥)
 
   abbrev NamedIn : Named → Type 0
   NamedIn Named.Nothing = Unit {0}

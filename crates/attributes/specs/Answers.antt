@@ -9,15 +9,15 @@ use Rattle.attributes.specs.declared.item.Values.{Values}
 
 -- "19 something after a value with no white space between, 20 empty name, 21 no `=`, 22 no opening or closing quote, 23 `<` in a value, 24 name already
 -- used in this tag"
-abbrev pub faultNumber : Fault → ℕ
-faultNumber Fault.BadState = 17
-faultNumber Fault.NoSpace = 19
-faultNumber Fault.EmptyName = 20
-faultNumber Fault.NoEquals = 21
-faultNumber Fault.NoOpeningQuote = 22
-faultNumber (Fault.NoClosingQuote quote) = 22
-faultNumber Fault.LessThan = 23
-faultNumber (Fault.NameUsed first) = 24
+abbrev pub fault_number : Fault → ℕ
+fault_number Fault.BadState = 17
+fault_number Fault.NoSpace = 19
+fault_number Fault.EmptyName = 20
+fault_number Fault.NoEquals = 21
+fault_number Fault.NoOpeningQuote = 22
+fault_number (Fault.NoClosingQuote quote) = 22
+fault_number Fault.LessThan = 23
+fault_number (Fault.NameUsed first) = 24
 
 -- a refusal at a place
 abbrev pub refusal : Fault → ℕ → Refusal
@@ -36,30 +36,30 @@ abbrev pub extent : ℕ → ℕ → Extent
 extent from to = record { from = from; to = to }
 
 -- of 22: the quote that is not closed, and 0 where none opens
-abbrev pub faultQuote : Fault → ℕ
-faultQuote Fault.BadState = 0
-faultQuote Fault.NoSpace = 0
-faultQuote Fault.EmptyName = 0
-faultQuote Fault.NoEquals = 0
-faultQuote Fault.NoOpeningQuote = 0
-faultQuote (Fault.NoClosingQuote quote) = quote
-faultQuote Fault.LessThan = 0
-faultQuote (Fault.NameUsed first) = 0
+abbrev pub fault_quote : Fault → ℕ
+fault_quote Fault.BadState = 0
+fault_quote Fault.NoSpace = 0
+fault_quote Fault.EmptyName = 0
+fault_quote Fault.NoEquals = 0
+fault_quote Fault.NoOpeningQuote = 0
+fault_quote (Fault.NoClosingQuote quote) = quote
+fault_quote Fault.LessThan = 0
+fault_quote (Fault.NameUsed first) = 0
 
 -- of 24: where the name was used first
-abbrev pub faultFirst : Fault → ℕ
-faultFirst Fault.BadState = 0
-faultFirst Fault.NoSpace = 0
-faultFirst Fault.EmptyName = 0
-faultFirst Fault.NoEquals = 0
-faultFirst Fault.NoOpeningQuote = 0
-faultFirst (Fault.NoClosingQuote quote) = 0
-faultFirst Fault.LessThan = 0
-faultFirst (Fault.NameUsed first) = first
+abbrev pub fault_first : Fault → ℕ
+fault_first Fault.BadState = 0
+fault_first Fault.NoSpace = 0
+fault_first Fault.EmptyName = 0
+fault_first Fault.NoEquals = 0
+fault_first Fault.NoOpeningQuote = 0
+fault_first (Fault.NoClosingQuote quote) = 0
+fault_first Fault.LessThan = 0
+fault_first (Fault.NameUsed first) = first
 
 -- "Each answer gives the name and value spans and where to go on"
-abbrev pub attributeValues : Attribute → Values
-attributeValues a = record { found = 1; name = a.name; value = a.value; next = a.next; number = 0; place = 0; quote = 0; first = 0 }
+abbrev pub attribute_values : Attribute → Values
+attribute_values a = record { found = 1; name = a.name; value = a.value; next = a.next; number = 0; place = 0; quote = 0; first = 0 }
 
 -- a refusal has its number and its place
 abbrev pub refusal_values : Refusal → Values
@@ -69,13 +69,13 @@ refusal_values x =
       name = extent 0 0;
       value = extent 0 0;
       next = 0;
-      number = faultNumber x.fault;
+      number = fault_number x.fault;
       place = x.place;
-      quote = faultQuote x.fault;
-      first = faultFirst x.fault;
+      quote = fault_quote x.fault;
+      first = fault_first x.fault;
     }
 
 abbrev pub values_of : Item → Values
-values_of (Item.Attribute a) = attributeValues a
+values_of (Item.Attribute a) = attribute_values a
 values_of Item.Nothing = record { found = 0; name = extent 0 0; value = extent 0 0; next = 0; number = 0; place = 0; quote = 0; first = 0 }
 values_of (Item.Refused x) = refusal_values x

@@ -1,6 +1,6 @@
 // The equals sign between name and value (XML 1.0, production 25; 21).
 ghost use Rattle.std.specs.Prelude.{◌≡◌};
-ghost use Rattle.attributes.specs.Grammar.{equals_at as equalsAtOf};
+ghost use Rattle.attributes.specs.Grammar.{equals_at as equals_at_of};
 
 use crate::item::{Fault, Refusal};
 use ground::byte_at;
@@ -15,7 +15,7 @@ pub enum Equals {
 
 // The equals sign behind a name that ends at `at`.
 pub fn equals_at(content: &[u8], at: usize) -> Equals
-    ensures { result ≡ equalsAtOf content.now at }
+    ensures { result ≡ equals_at_of content.now at }
 {
     let sign = trim_start(content, at, content.len());
     if byte_at(content, sign) == b'=' {

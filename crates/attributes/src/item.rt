@@ -1,6 +1,6 @@
 // What a call answers: an attribute, none, or a refusal with its place.
 ghost use Rattle.std.specs.Prelude.{◌≡◌};
-ghost use Rattle.attributes.specs.Answers.{faultNumber, faultQuote, faultFirst, refused as refusedOf, attributeValues, refusal_values, values_of};
+ghost use Rattle.attributes.specs.Answers.{fault_number, fault_quote, fault_first, refused as refused_of, attribute_values, refusal_values, values_of};
 
 // From a place up to another.
 #[derive(Clone, Copy)]
@@ -67,7 +67,7 @@ pub struct Values {
 impl Fault {
     // The number of a refusal.
     pub fn number(self) -> usize
-        ensures { result ≡ faultNumber self }
+        ensures { result ≡ fault_number self }
     {
         match self {
             Fault::BadState => 17,
@@ -83,7 +83,7 @@ impl Fault {
 
     // The quote that is not closed; 0 for any other fault.
     fn quote(self) -> usize
-        ensures { result ≡ faultQuote self }
+        ensures { result ≡ fault_quote self }
     {
         match self {
             Fault::BadState => 0,
@@ -99,7 +99,7 @@ impl Fault {
 
     // Where the name was used first; 0 for any other fault.
     fn first(self) -> usize
-        ensures { result ≡ faultFirst self }
+        ensures { result ≡ fault_first self }
     {
         match self {
             Fault::BadState => 0,
@@ -117,7 +117,7 @@ impl Fault {
 impl Attribute {
     // The attribute as numbers.
     fn values(self) -> Values
-        ensures { result ≡ attributeValues self }
+        ensures { result ≡ attribute_values self }
     {
         let name = self.name;
         let value = self.value;
@@ -179,7 +179,7 @@ impl Item {
 
 // A refusal.
 pub fn refused(fault: Fault, place: usize) -> Item
-    ensures { result ≡ refusedOf fault place }
+    ensures { result ≡ refused_of fault place }
 {
     Item::Refused(Refusal { fault, place })
 }

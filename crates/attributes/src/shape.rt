@@ -1,6 +1,6 @@
 // An attribute by the grammar alone (XML 1.0, production 41): whatever names came before it.
 ghost use Rattle.std.specs.Prelude.{◌≡◌};
-ghost use Rattle.attributes.specs.Grammar.{shape_at as shapeAtOf, named as named_of};
+ghost use Rattle.attributes.specs.Grammar.{shape_at as shape_at_of, named as named_of};
 
 use crate::equals::{Equals, equals_at};
 use crate::item::{Attribute, Extent, Item};
@@ -9,7 +9,7 @@ use crate::value::{Valued, value_at};
 
 // The attribute behind the white space at `at`.
 pub fn shape_at(content: &[u8], at: usize) -> Item
-    ensures { result ≡ shapeAtOf content.now at }
+    ensures { result ≡ shape_at_of content.now at }
 {
     match name_at(content, at) {
         Named::Nothing => Item::Nothing,

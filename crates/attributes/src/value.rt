@@ -1,6 +1,6 @@
 // A value in quotes (XML 1.0, production 10; 22, 23).
 ghost use Rattle.std.specs.Prelude.{◌≡◌};
-ghost use Rattle.attributes.specs.Grammar.{value_end as valueEndOf, quoted_from, value_at as valueAtOf};
+ghost use Rattle.attributes.specs.Grammar.{value_end as value_end_of, quoted_from, value_at as value_at_of};
 
 use crate::item::{Extent, Fault, Refusal};
 use crate::name::is_quote;
@@ -15,7 +15,7 @@ pub enum Valued {
 
 // The value behind an equals sign that ends at `at`.
 pub fn value_at(content: &[u8], at: usize) -> Valued
-    ensures { result ≡ valueAtOf content.now at }
+    ensures { result ≡ value_at_of content.now at }
 {
     let opening = trim_start(content, at, content.len());
     let quote = byte_at(content, opening);
@@ -50,7 +50,7 @@ fn quoted(content: &[u8], from: usize, quote: u8) -> Valued
 
 // Where a value stops that begins at `from`: at the first such quote or `<`, or at the content's end.
 fn value_end(content: &[u8], from: usize, quote: u8) -> usize
-    ensures { result ≡ valueEndOf content.now quote from }
+    ensures { result ≡ value_end_of content.now quote from }
 {
     let mut i = from;
     while i < content.len() {

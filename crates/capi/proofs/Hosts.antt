@@ -18,7 +18,7 @@ use Rattle.state.specs.Limits.{longest}
 use Rattle.state.specs.Make.{fresh, made}
 use Rattle.state.specs.Place.{span}
 use Rattle.state.specs.Values.{kind_number, values_of, ends_run}
-use Rattle.demands.specs.Answers.{isMismatch, isUnclosed, isEnding, count, latestIs, oneIs}
+use Rattle.demands.specs.Answers.{is_mismatch, is_unclosed, is_ending, count, latest_is, one_is}
 use Rattle.demands.specs.Laid.{pieces, SetOnce}
 use Rattle.demands.specs.Run.{World, said, call, run}
 use Rattle.demands.proofs.Demand3.{starts_are_ends_mismatches_and_open, as_many_as_the_depth}
@@ -67,8 +67,8 @@ a_host_can_call doc stack settings short (suc n) =
 
 module _ (is : Heard → Bool) (was : Answer → Bool) (agree : (x : Heard) (a : Answer) → numbers_heard x ≡ numbers_told a → is x ≡ was a) where
   same_told : (xs : List Heard) (answers : List Answer) → map numbers_heard xs ≡ map numbers_told answers
-      → (count is xs ≡ count was answers) × (latestIs is xs ≡ latestIs was answers) × (oneIs is xs ≡ oneIs was answers)
-  unfolding count oneIs
+      → (count is xs ≡ count was answers) × (latest_is is xs ≡ latest_is was answers) × (one_is is xs ≡ one_is was answers)
+  unfolding count one_is
   same_told [] [] e = (refl, refl, refl)
   same_told [] (a ∷ before) e = let z : ◌≡◌ {A = ℕ} 0 1 = cc in absurd (omega arith)
   same_told (x ∷ xs) [] e = let z : ◌≡◌ {A = ℕ} 0 1 = cc in absurd (omega arith)
@@ -89,7 +89,7 @@ module _ (x : Heard) (a : Answer) (e : numbers_heard x ≡ numbers_told a) where
   same_number : (n : ℕ) → heard_number n x ≡ eqb (values_of a).number n
   same_number n = ap (λ (vs : List ℕ). eqb (get_or vs 0 0) n) e
 
-  same_ending : heard_ending x ≡ isEnding a
+  same_ending : heard_ending x ≡ is_ending a
   same_ending = ap (λ (vs : List ℕ). ends_run (get_or vs 0 0)) e
 
   same_piece : heard_piece x ≡ (values_of a).piece
@@ -134,12 +134,12 @@ module _ (doc stack : List ℕ) (settings : ℕ) {n : ℕ} {h : Host} (calls : H
 
   heard_kind_lem : (kind : Kind)
       → (count (heard_kind kind) h.heard ≡ count (is_kind kind) w.answers)
-      × (latestIs (heard_kind kind) h.heard ≡ latestIs (is_kind kind) w.answers)
-      × (oneIs (heard_kind kind) h.heard ≡ oneIs (is_kind kind) w.answers)
+      × (latest_is (heard_kind kind) h.heard ≡ latest_is (is_kind kind) w.answers)
+      × (one_is (heard_kind kind) h.heard ≡ one_is (is_kind kind) w.answers)
   heard_kind_lem kind = same_told (heard_kind kind) (is_kind kind) (λ x a e. same_kind x a e kind) h.heard w.answers follows.heard
 
   -- THEOREM: "end of file comes by call number length + 2", and stays
-  pub after_length_and_two_calls_a_host_hears_eof : length doc + 2 ≤ n → latestIs (heard_kind Kind.Eof) h.heard ≡ true
+  pub after_length_and_two_calls_a_host_hears_eof : length doc + 2 ≤ n → latest_is (heard_kind Kind.Eof) h.heard ≡ true
   after_length_and_two_calls_a_host_hears_eof enough = (heard_kind_lem Kind.Eof).1 ∙ latest_eof doc stack (config_of settings) short n enough
 
   open_names : names_open h ≡ w.reader.depth.0
@@ -154,7 +154,7 @@ module _ (doc stack : List ℕ) (settings : ℕ) {n : ℕ} {h : Host} (calls : H
         open_names,
         (heard_kind_lem Kind.Start).0,
         (heard_kind_lem Kind.End).0,
-        (same_told (heard_number 10) isMismatch (λ x a e. same_number x a e 10) h.heard w.answers follows.heard).0,
+        (same_told (heard_number 10) is_mismatch (λ x a e. same_number x a e 10) h.heard w.answers follows.heard).0,
         starts_are_ends_mismatches_and_open doc stack (config_of settings) short off n,
         as_many_as_the_depth doc stack (config_of settings) short n,
       )
@@ -162,7 +162,7 @@ module _ (doc stack : List ℕ) (settings : ℕ) {n : ℕ} {h : Host} (calls : H
   -- THEOREM: open names checked: a host that heard Eof, and neither 18 nor a refusal that ended the run, heard a whole page: no name is open, and, where unmatched
   -- ends are refused, Starts = Ends + mismatches
   pub a_host's_page_that_ends_with_eof_and_no_refusal_is_whole : (config_of settings).check_open_names ≡ true
-      → oneIs (heard_kind Kind.Eof) h.heard ≡ true → oneIs (heard_number 18) h.heard ≡ false → oneIs heard_ending h.heard ≡ false
+      → one_is (heard_kind Kind.Eof) h.heard ≡ true → one_is (heard_number 18) h.heard ≡ false → one_is heard_ending h.heard ≡ false
       → (names_open h ≡ 0)
       × ((config_of settings).allow_unmatched_ends ≡ false
       → count (heard_kind Kind.Start) h.heard ≡ count (heard_kind Kind.End) h.heard + count (heard_number 10) h.heard)
@@ -170,8 +170,8 @@ module _ (doc stack : List ℕ) (settings : ℕ) {n : ℕ} {h : Host} (calls : H
       let whole =
       a_page_that_ends_with_eof_and_no_refusal_is_whole doc stack (config_of settings) short on n
       (sym (heard_kind_lem Kind.Eof).2 ∙ eof)
-      (sym (same_told (heard_number 18) isUnclosed (λ x a e. same_number x a e 18) h.heard w.answers follows.heard).2 ∙ unclosed)
-      (sym (same_told heard_ending isEnding same_ending h.heard w.answers follows.heard).2 ∙ ending) in
+      (sym (same_told (heard_number 18) is_unclosed (λ x a e. same_number x a e 18) h.heard w.answers follows.heard).2 ∙ unclosed)
+      (sym (same_told heard_ending is_ending same_ending h.heard w.answers follows.heard).2 ∙ ending) in
       let none : names_open h ≡ 0 = open_names ∙ sym (as_many_as_the_depth doc stack (config_of settings) short n) ∙ ap length whole.0 in
       (none, λ off. omega (arith, none, a_host's_starts_are_ends_mismatches_and_open off))
 
@@ -186,12 +186,12 @@ module _ (doc stack : List ℕ) (settings : ℕ) {n : ℕ} {h : Host} (calls : H
   each_byte_is_set_once_for_a_host = rw (same_pieces, same_position) (each_byte_is_set_once doc stack (config_of settings) short n)
 
   -- THEOREM: and of a host that heard Eof and no refusal that ended the run the state stands at the document's end
-  pub at_eof_a_host_stands_at_the_end : oneIs (heard_kind Kind.Eof) h.heard ≡ true → oneIs heard_ending h.heard ≡ false → stands_at h ≡ length doc
+  pub at_eof_a_host_stands_at_the_end : one_is (heard_kind Kind.Eof) h.heard ≡ true → one_is heard_ending h.heard ≡ false → stands_at h ≡ length doc
   at_eof_a_host_stands_at_the_end eof ending =
       same_position
       ∙ at_eof_the_position_is_the_length doc stack (config_of settings) short n
       (sym (heard_kind_lem Kind.Eof).2 ∙ eof)
-      (sym (same_told heard_ending isEnding same_ending h.heard w.answers follows.heard).2 ∙ ending)
+      (sym (same_told heard_ending is_ending same_ending h.heard w.answers follows.heard).2 ∙ ending)
 
   -- THEOREM: where one of those ended the run, it stands at the end of its piece
   pub a_refusal_that_ended_the_run_leaves_a_host_what_is_behind_it : (later before : List Heard) (x : Heard)

@@ -19,7 +19,7 @@ use Rattle.state.specs.Limits.{longest}
 use Rattle.state.specs.Make.{fresh, made}
 use Rattle.state.specs.Values.{values_of}
 use Rattle.reader.specs.Step.{step}
-use Rattle.demands.specs.Answers.{isBadState}
+use Rattle.demands.specs.Answers.{is_bad_state}
 use Rattle.demands.specs.Run.{World, said, call, run}
 use Rattle.demands.proofs.Demand1.{bad_state_exactly_when_unsound, unsound_changes_nothing}
 use Rattle.demands.proofs.Unclosed.{no_call_turns_the_mark_off}
@@ -88,7 +88,7 @@ seventeen_changes_nothing doc stack state answer number stack' state' answer' c 
   where
     by : (h : Held) → lent_to state answer ≡ h → (stack' ≡ stack) × (state' ≡ state)
     by (Held.Reader r) k =
-        let bad : isBadState (step doc stack r).answer ≡ true = eq-eqb (values_of (step doc stack r).answer).number 17 (sym (c.said ∙ rw k refl) ∙ e) in
+        let bad : is_bad_state (step doc stack r).answer ≡ true = eq-eqb (values_of (step doc stack r).answer).number 17 (sym (c.said ∙ rw k refl) ∙ e) in
         let same = unsound_changes_nothing doc stack r ((bad_state_exactly_when_unsound doc stack r).0 bad) in (
           c.names ∙ rw k same.1,
           c.reader ∙ rw k (ap (λ (x : Reader). put state (state_numbers (mark_slot state) x)) same.0 ∙ what_is_held_is_stored state r (lent_holds state answer r k)),

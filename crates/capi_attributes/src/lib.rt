@@ -3,7 +3,7 @@
 
 ghost use Rattle.std.specs.Prelude.{◌≡◌, ◌++◌, ◌+◌, ◌<◌, ◌≤◌, ◌^◌, length, drop};
 ghost use Rattle.capi_attributes.specs.Inside.{Movable};
-ghost use Rattle.capi_attributes.specs.Attributes.{bad_values, attribute_slots, item_numbers, moved as movedOf, moved_extent, moved_first, attribute_in, found_in, Told};
+ghost use Rattle.capi_attributes.specs.Attributes.{bad_values, attribute_slots, item_numbers, moved as moved_of, moved_extent, moved_first, attribute_in, found_in, Told};
 
 use attributes::attribute;
 use attributes::find::find;
@@ -101,7 +101,7 @@ fn bad() -> Values
 // An answer on a content that begins at the place `by` of the document, with its places counted in the document.
 fn moved(values: Values, by: usize) -> Values
     requires { Movable by values }
-    ensures { result ≡ movedOf by values }
+    ensures { result ≡ moved_of by values }
 {
     let name = values.name;
     let value = values.value;

@@ -16,11 +16,11 @@ use Rattle.pieces.specs.declared.scan.State.{State}
 use Rattle.pieces.specs.declared.scan.Scan.{Scan}
 use Rattle.capi_pieces.specs.declared.slots.Held.{Held}
 use Rattle.capi_pieces.specs.Numbers.{scan_slots, kind_number, state_number, marks_in, numbers, numbers_of, plain_of, scan_of, held_of}
-use Rattle.capi_pieces.proofs.Answers.{held-room}
+use Rattle.capi_pieces.proofs.Answers.{held_room}
 
 -- too few slots hold nothing
 short : {A : Type 0} (slots : List ℕ) (scan : Scan) → length slots < scan_slots → held_of slots ≡ Held.Scan scan → A
-short slots scan l e = absurd (omega (arith, held-room slots (held_of slots) scan refl e))
+short slots scan l e = absurd (omega (arith, held_room slots (held_of slots) scan refl e))
 
 -- four slots, and any behind them
 held_four : (a b c d : ℕ) (rest : List ℕ) → held_of (a ∷ b ∷ c ∷ d ∷ rest) ≡ scan_of a b (record { left = c; seen = d })

@@ -7,7 +7,7 @@ use Rattle.state.specs.Place.{at, depth_of}
 use Rattle.rows.specs.declared.row.Row.{Row}
 use Rattle.rows.specs.declared.row.Given.{Given}
 use Rattle.rows.specs.declared.row.Filled.{Filled}
-use Rattle.rows.specs.Answers.{bad_number, givenNumber, filledNumber, count_of}
+use Rattle.rows.specs.Answers.{bad_number, given_number, filled_number, count_of}
 use Rattle.rows.specs.Rows.{row_of, plan_of, rows_from}
 
 -- ---- slots
@@ -65,7 +65,7 @@ row_left slots Given.BadState = slots
 
 -- 0 and the row, or 17
 pub record RowTold (stack state : List ℕ) (depth : ℕ) (slots : List ℕ) (number : ℕ) (slots' : List ℕ) : Type 0 where
-  pub said : number ≡ givenNumber (row_in stack state depth slots)
+  pub said : number ≡ given_number (row_in stack state depth slots)
   pub row : slots' ≡ row_left slots (row_in stack state depth slots)
 
 -- ---- a list of rows
@@ -80,6 +80,6 @@ no_room answer = ltb (length answer) filled_slots
 
 -- 0 or 17, the rows, and how many were filled; 17 too where the answer has too few slots, and nothing is written then
 pub record RowsTold (stack state slots answer : List ℕ) (number : ℕ) (slots' answer' : List ℕ) : Type 0 where
-  pub said : number ≡ pick (no_room answer) bad_number (filledNumber (filled_in stack state (length slots / row_slots)))
+  pub said : number ≡ pick (no_room answer) bad_number (filled_number (filled_in stack state (length slots / row_slots)))
   pub rows : slots' ≡ pick (no_room answer) slots (filled_with stack (count_of (filled_in stack state (length slots / row_slots))) slots)
   pub count : answer' ≡ pick (no_room answer) answer (count_of (filled_in stack state (length slots / row_slots)) ∷ drop filled_slots answer)

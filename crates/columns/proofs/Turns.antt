@@ -30,7 +30,7 @@ use Rattle.state.specs.Values.{kind_number}
 use Rattle.state.proofs.Room.{capacity_slots}
 use Rattle.reader.specs.Step.{step, Stepped}
 use Rattle.demands.specs.Run.{World, said, call, run}
-use Rattle.demands.specs.Answers.{isEof, oneIs}
+use Rattle.demands.specs.Answers.{is_eof, one_is}
 use Rattle.demands.specs.Open.{entries}
 use Rattle.demands.proofs.Demand1.{a_reader_made_is_a_run's, depth_within_capacity, stack_keeps_its_length, eof_stays}
 use Rattle.demands.proofs.Demand3.{open_names_are_those_told}
@@ -107,7 +107,7 @@ module _ (r : Reading) (column₀ : List ℕ) (whole : r.outcome ≡ Outcome.Who
 
 -- ---- end of file tells nothing
 
-eof_tells_nothing : (doc : List ℕ) (names : List Span) (a : Answer) → isEof a ≡ true → tells doc names a ≡ Told.Nothing
+eof_tells_nothing : (doc : List ℕ) (names : List Span) (a : Answer) → is_eof a ≡ true → tells doc names a ≡ Told.Nothing
 unfolding event_tells
 eof_tells_nothing doc names (Answer.Event e) h =
     let k : kind_number e.kind ≡ kind_number Kind.Eof = eqb-true (kind_number e.kind) (kind_number Kind.Eof) h in
@@ -138,7 +138,7 @@ module _ (doc stack₀ column₀ : List ℕ) where
 
   -- whether one of them is Eof, and whether the reading is over
   abbrev pub ended : ℕ → Bool
-  ended n = oneIs isEof (after n).answers
+  ended n = one_is is_eof (after n).answers
 
   abbrev pub over : ℕ → Bool
   over n = is_over doc (length column₀) (after n).answers
@@ -160,16 +160,16 @@ module _ (doc stack₀ column₀ : List ℕ) where
     unfolding run call calls_of
     asked_over e = rw e refl
 
-    pub ended_next : isEof (said doc (after n)) ≡ true → ended (suc n) ≡ true
-    unfolding run call oneIs
+    pub ended_next : is_eof (said doc (after n)) ≡ true → ended (suc n) ≡ true
+    unfolding run call one_is
     ended_next e = rw e refl
 
     pub ended_stays : ended n ≡ true → ended (suc n) ≡ true
-    unfolding run call oneIs
-    ended_stays e = rw e (pick_same (isEof (said doc (after n))) true)
+    unfolding run call one_is
+    ended_stays e = rw e (pick_same (is_eof (said doc (after n))) true)
 
-    pub unended_next : ended n ≡ false → isEof (said doc (after n)) ≡ false → ended (suc n) ≡ false
-    unfolding run call oneIs
+    pub unended_next : ended n ≡ false → is_eof (said doc (after n)) ≡ false → ended (suc n) ≡ false
+    unfolding run call one_is
     unended_next e f = rw (f, e) refl
 
     -- a reading is over after a refusal, and after Eof
@@ -203,14 +203,14 @@ module _ (doc stack₀ column₀ : List ℕ) where
 
   module _ (short : length doc ≤ longest) where
     -- an Eof is the last that is heard
-    module _ (n : ℕ) (goes : is_refused (heard n).outcome ≡ false) (eof : isEof (said doc (after n)) ≡ true) where
+    module _ (n : ℕ) (goes : is_refused (heard n).outcome ≡ false) (eof : is_eof (said doc (after n)) ≡ true) where
       pub eof_heard : (k : ℕ) → heard (k + suc n) ≡ heard n
       eof_heard zero = rw (zero-add (suc n)) (heard_next n goes ∙ ap (onward (length column₀) (heard n)) (eof_tells_nothing doc _ (said doc (after n)) eof))
       eof_heard (suc k) =
           let h = eof_heard k in
           let m = k + suc n in
           let f : is_refused (heard m).outcome ≡ false = ap (λ (r : Reading). is_refused r.outcome) h ∙ goes in
-          let e : isEof (said doc (after m)) ≡ true = (eof_stays doc stack₀ defaults short n eof k).says in
+          let e : is_eof (said doc (after m)) ≡ true = (eof_stays doc stack₀ defaults short n eof k).says in
           rw (suc-add k (suc n)) (heard_next m f ∙ ap (onward (length column₀) (heard m)) (eof_tells_nothing doc _ (said doc (after m)) e) ∙ h)
 
 -- ---- a loop over calls
@@ -238,7 +238,7 @@ read_to doc stack₀ column₀ f stack column r calls e n t s =
 
 -- before the first call
 pub going_first : (doc stack column : List ℕ) (r : Reader) → made (length doc) defaults ≡ Made.Fresh r → Going doc stack column 0 stack column r 0
-unfolding run read_of calls_of oneIs
+unfolding run read_of calls_of one_is
 going_first doc stack column r e =
     let m = a_reader_made_is_a_run's doc stack defaults r e in
     record {
@@ -296,10 +296,10 @@ module _ (doc stack₀ column₀ stack column : List ℕ) (r : Reader) (i count 
         rw (next_reader, next_stack, l) (capacity_slots (length stack₀) (run doc stack₀ defaults (suc i)).reader.depth.0 d)
 
     -- at an Eof
-    pub read_eof : (calls : ℕ) (x : Bool) → calls ≡ length doc + 2 → i < calls → x ≡ isEof s.answer → x ≡ true
+    pub read_eof : (calls : ℕ) (x : Bool) → calls ≡ length doc + 2 → i < calls → x ≡ is_eof s.answer → x ≡ true
         → ReadTo doc stack₀ column₀ (record { count = count; outcome = Outcome.Whole }) after' column
     read_eof calls x e l f t =
-        let eof : isEof (said doc (run doc stack₀ defaults i)) ≡ true = ap isEof (sym next_said) ∙ sym f ∙ t in
+        let eof : is_eof (said doc (run doc stack₀ defaults i)) ≡ true = ap is_eof (sym next_said) ∙ sym f ∙ t in
         let k = length doc + 2 - suc i in
         let n : k + suc i ≡ length doc + 2 = omega arith in
         let over-now = over_ended doc stack₀ column₀ (suc i) (ended_next doc stack₀ column₀ i eof) in
@@ -327,7 +327,7 @@ module _ (doc stack₀ column₀ stack column : List ℕ) (r : Reader) (i count 
 
       module _ (x : Bool) (ex : x ≡ is_refused f.outcome) where
         -- one more call
-        pub going_on : (y : Bool) → y ≡ isEof s.answer → y ≡ false → x ≡ false → Going doc stack₀ column₀ (i + 1) after' column' s.reader f.count
+        pub going_on : (y : Bool) → y ≡ is_eof s.answer → y ≡ false → x ≡ false → Going doc stack₀ column₀ (i + 1) after' column' s.reader f.count
         going_on y ey not_eof not_refused =
             rw (add-one i)
             record {
@@ -335,7 +335,7 @@ module _ (doc stack₀ column₀ stack column : List ℕ) (r : Reader) (i count 
               reader = next_reader;
               names = next_stack;
               asks = asked_onward;
-              unended = unended_next doc stack₀ column₀ i g.unended (ap isEof (sym next_said) ∙ sym ey ∙ not_eof);
+              unended = unended_next doc stack₀ column₀ i g.unended (ap is_eof (sym next_said) ∙ sym ey ∙ not_eof);
               same = rw (whole_outcome f.outcome (sym ex ∙ not_refused)) at same_next;
             }
 

@@ -24,7 +24,7 @@ use Rattle.state.specs.Settings.{defaults}
 use Rattle.state.specs.Values.{kind_number}
 use Rattle.reader.specs.Names.{bytes}
 use Rattle.demands.specs.Run.{World, said, call, run}
-use Rattle.demands.specs.Answers.{isEof, oneIs}
+use Rattle.demands.specs.Answers.{is_eof, one_is}
 use Rattle.demands.proofs.Demand1.{eof_by_length_and_two}
 use Rattle.demands.proofs.Pieces.{pieces_stand_in_the_order_of_calls}
 use Rattle.columns.specs.declared.Summary.{Summary}
@@ -228,14 +228,14 @@ module _ (doc stack column : List ℕ) where
 
   -- where an answer is Eof, one was it first
   first_eof : (n : ℕ) → ended doc stack column n ≡ true → (m : ℕ) × TurnsOn (ended doc stack column) n m
-  unfolding run oneIs
+  unfolding run one_is
   first_eof n = turned_on (ended doc stack column) n refl
 
-  turned_by_eof : (m : ℕ) → ended doc stack column m ≡ false → ended doc stack column (suc m) ≡ true → isEof (said doc (after m)) ≡ true
+  turned_by_eof : (m : ℕ) → ended doc stack column m ≡ false → ended doc stack column (suc m) ≡ true → is_eof (said doc (after m)) ≡ true
   turned_by_eof m off on =
-      not_false (isEof (said doc (after m)))
-      (must_fail (not (isEof (said doc (after m))))
-      (λ e. clash (ended doc stack column (suc m)) on (unended_next doc stack column m off (not_true (isEof (said doc (after m))) e))))
+      not_false (is_eof (said doc (after m)))
+      (must_fail (not (is_eof (said doc (after m))))
+      (λ e. clash (ended doc stack column (suc m)) on (unended_next doc stack column m off (not_true (is_eof (said doc (after m))) e))))
 
   -- a call before one that goes on goes on
   goes_before : (k m : ℕ) → k ≤ m → is_refused (read m).outcome ≡ false → is_refused (read k).outcome ≡ false
@@ -312,7 +312,7 @@ module _ (doc stack column : List ℕ) where
 
     -- one that nothing stops comes to Eof
     ended_by : is_refused (read (length doc + 2)).outcome ≡ false → (n : ℕ) × EndedBy doc stack room n
-    unfolding run call oneIs
+    unfolding run call one_is
     ended_by e =
         let two : length doc + 2 ≡ suc (length doc + 1) = omega arith in
         let end : ended doc stack column (length doc + 2) ≡ true =

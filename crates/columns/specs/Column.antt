@@ -6,7 +6,7 @@ use Rattle.state.specs.declared.run.Made.{Made}
 use Rattle.state.specs.Make.{made}
 use Rattle.state.specs.Settings.{defaults}
 use Rattle.demands.specs.Run.{World, said, run}
-use Rattle.demands.specs.Answers.{isEof, oneIs}
+use Rattle.demands.specs.Answers.{is_eof, one_is}
 use Rattle.demands.specs.Open.{left_open}
 use Rattle.columns.specs.declared.Summary.{Summary}
 use Rattle.columns.specs.declared.outcome.Outcome.{Outcome}
@@ -43,7 +43,7 @@ module _ (doc : List ℕ) (room : ℕ) where
 
   -- nothing is read after a refusal, or after Eof
   abbrev pub is_over : List Answer → Bool
-  is_over answers = pick (is_refused (read_of answers).outcome) true (oneIs isEof answers)
+  is_over answers = pick (is_refused (read_of answers).outcome) true (one_is is_eof answers)
 
   -- how many calls are made: up to the one with which it is over
   unfoldable pub calls_of : List Answer → ℕ

@@ -7,7 +7,7 @@ use Rattle.state.specs.Settings.{defaults}
 use Rattle.state.specs.Values.{kind_number, values_of}
 use Rattle.reader.specs.Names.{bytes}
 use Rattle.demands.specs.Run.{said, run}
-use Rattle.demands.specs.Answers.{isEof}
+use Rattle.demands.specs.Answers.{is_eof}
 use Rattle.demands.specs.Open.{left_open}
 use Rattle.columns.specs.declared.told.Told.{Told}
 use Rattle.columns.specs.declared.outcome.Outcome.{Outcome}
@@ -65,7 +65,7 @@ Stops room times (Told.Refused why) outcome = (is_refused why ≡ true) × (outc
 
 -- the reading comes to its end: call n + 1 answers Eof, within the bound, and no call stops it
 pub record EndedBy (doc stack : List ℕ) (room n : ℕ) : Type 0 where
-  pub eof : isEof (said doc (run doc stack defaults n)) ≡ true
+  pub eof : is_eof (said doc (run doc stack defaults n)) ≡ true
   pub in_time : n < length doc + 2
   pub unstopped : (k : ℕ) (outcome : Outcome) → k < length doc + 2 → Stops room (times_told doc (run doc stack defaults k).answers) (told_in doc (run doc stack defaults k)) outcome → ⊥
   pub calls : calls_of doc room (answers_of doc stack) ≡ suc n

@@ -2,7 +2,7 @@
 ghost use Rattle.std.specs.Prelude.{◌≡◌, ◌*◌, ◌≤◌, length};
 ghost use Rattle.state.specs.Limits.{slots};
 ghost use Rattle.demands.specs.Open.{entries};
-ghost use Rattle.columns.specs.Told.{within as withinOf};
+ghost use Rattle.columns.specs.Told.{within as within_of};
 
 use ground::{part, same};
 use state::limits::SLOTS;
@@ -11,7 +11,7 @@ use state::place::Depth;
 // Whether it is `t`.
 pub fn within(document: &[u8], stack: &[usize], depth: Depth) -> bool
     requires { depth.0 * slots ≤ length stack.now }
-    ensures { result ≡ withinOf document.now (entries stack.now depth.0) }
+    ensures { result ≡ within_of document.now (entries stack.now depth.0) }
 {
     if depth.0 == 0 {
         return false;

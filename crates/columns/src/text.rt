@@ -1,6 +1,6 @@
 // The text of a time.
 ghost use Rattle.std.specs.Prelude.{◌≡◌, ◌-◌, ◌≤◌};
-ghost use Rattle.columns.specs.Time.{is_digit, digit as digitOf, two_digits, cleared as clearedOf, is_clock as isClockOf, read_time};
+ghost use Rattle.columns.specs.Time.{is_digit, digit as digit_of, two_digits, cleared as cleared_of, is_clock as is_clock_of, read_time};
 
 use ground::part;
 use white::{trim_end, trim_start};
@@ -45,7 +45,7 @@ pub fn read_time(text: &[u8]) -> Text
 
 // Without the white space at both ends.
 fn cleared(text: &[u8]) -> &[u8]
-    ensures { result.now ≡ clearedOf text.now }
+    ensures { result.now ≡ cleared_of text.now }
 {
     let from = trim_start(text, 0, text.len());
     let to = trim_end(text, from, text.len());
@@ -54,7 +54,7 @@ fn cleared(text: &[u8]) -> &[u8]
 
 // Whether bytes are two digits, a colon and two digits.
 fn is_clock(s: &[u8]) -> bool
-    ensures { result ≡ isClockOf s.now }
+    ensures { result ≡ is_clock_of s.now }
 {
     if s.len() != 5 {
         return false;
@@ -70,7 +70,7 @@ fn is_digit(b: u8) -> bool
 
 // What a digit stands for.
 fn digit(b: u8) -> usize
-    ensures { (result ≡ digitOf b) × (result ≤ 255) }
+    ensures { (result ≡ digit_of b) × (result ≤ 255) }
 {
     if b < b'0' { 0 } else { (b - b'0') as usize }
 }

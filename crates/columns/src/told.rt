@@ -1,9 +1,9 @@
 // What an answer tells of the column, and what that does to it.
 ghost use Rattle.std.specs.Prelude.{◌≡◌, ◌*◌, ◌≤◌, length};
 ghost use Rattle.state.specs.Limits.{slots};
-ghost use Rattle.demands.specs.Answers.{isEof};
+ghost use Rattle.demands.specs.Answers.{is_eof};
 ghost use Rattle.demands.specs.Open.{entries};
-ghost use Rattle.columns.specs.Told.{text_tells, tells as tellsOf};
+ghost use Rattle.columns.specs.Told.{text_tells, tells as tells_of};
 ghost use Rattle.columns.specs.Inside.{filled_by, slots_by};
 
 use crate::names::within;
@@ -32,7 +32,7 @@ pub struct Filled {
 
 // Whether an answer is end of file.
 pub fn is_eof(answer: Answer) -> bool
-    ensures { result ≡ isEof answer }
+    ensures { result ≡ is_eof answer }
 {
     let values = answer.values();
     let eof = Kind::Eof;
@@ -42,7 +42,7 @@ pub fn is_eof(answer: Answer) -> bool
 // What an answer tells, with `depth` names open: text and references tell something where the latest of these is `t`, and so does every refusal.
 pub fn tells(document: &[u8], stack: &[usize], depth: Depth, answer: Answer) -> Told
     requires { depth.0 * slots ≤ length stack.now }
-    ensures { result ≡ tellsOf document.now (entries stack.now depth.0) answer }
+    ensures { result ≡ tells_of document.now (entries stack.now depth.0) answer }
 {
     match answer {
         Answer::Refused(refusal) => Told::Refused(Outcome::ReaderRefused(refusal)),

@@ -19,7 +19,7 @@ use Rattle.reader.specs.Names.{name_of, bytes}
 use Rattle.reader.specs.Step.{step}
 use Rattle.reader.proofs.Outside.{Tagged}
 use Rattle.demands.specs.Run.{World, said, call, run}
-use Rattle.demands.specs.Answers.{isStart, is_end, isMismatch, isUnmatched}
+use Rattle.demands.specs.Answers.{is_start, is_end, is_mismatch, is_unmatched}
 use Rattle.demands.specs.Open.{opened, newest, left_open}
 use Rattle.demands.proofs.Held.{Does, keeping, adding, closing, mismatching, straying, unmatching, held_does, run_held}
 
@@ -115,7 +115,7 @@ module _ (doc : List ℕ) (w : World) where
 
   module _ (names : opened w ≡ left_open w.answers) where
     pub tally : Does doc w
-        → pick (isStart (said doc w)) 1 0 + stray + length (opened w) ≡ pick (is_end (said doc w)) 1 0 + pick (isMismatch (said doc w)) 1 0 + length (opened after)
+        → pick (is_start (said doc w)) 1 0 + stray + length (opened w) ≡ pick (is_end (said doc w)) 1 0 + pick (is_mismatch (said doc w)) 1 0 + length (opened after)
     tally (keeping q e) = rw (ne_eqb kind 1 q.0, ne_eqb kind 2 q.1, ne_eqb number 10 q.2.0, e)
     tally (adding l e tag) =
         let n = no_number (said doc w) (omega arith) in
@@ -152,25 +152,25 @@ module _ (doc stack : List ℕ) (c : Config) (short : length doc ≤ longest) (n
   pub setting : {A : Type 0} (flag : Config → A) (x : A) → flag c ≡ x → flag now.reader.settings ≡ x
   setting flag x e = ap flag (run_held doc c short stack n).settings ∙ e
 
-  pub at_start : isStart answer ≡ true → opened (call doc now) ≡ name_of answer ∷ opened now
+  pub at_start : is_start answer ≡ true → opened (call doc now) ≡ name_of answer ∷ opened now
   at_start e = let k = eqb-true (values_of answer).kind (kind_number Kind.Start) e in starts doc now does k (no_number answer (omega arith))
 
-  pub tag_at_start : isStart answer ≡ true → Tagged doc (step doc now.stack now.reader)
+  pub tag_at_start : is_start answer ≡ true → Tagged doc (step doc now.stack now.reader)
   tag_at_start e = let k = eqb-true (values_of answer).kind (kind_number Kind.Start) e in tags doc now does k (no_number answer (omega arith))
 
-  pub at_no_start : isStart answer ≡ false → (opened (call doc now) ≡ opened now) ⊎ (opened now ≡ newest now ∷ opened (call doc now))
+  pub at_no_start : is_start answer ≡ false → (opened (call doc now) ≡ opened now) ⊎ (opened now ≡ newest now ∷ opened (call doc now))
   at_no_start e = others doc now does (eqb-false (values_of answer).kind (kind_number Kind.Start) e)
 
   pub at_end : is_end answer ≡ true → Closing doc now ⊎ Straying doc now
   at_end e = let k = eqb-true (values_of answer).kind (kind_number Kind.End) e in ends doc now does k (no_number answer (omega arith))
 
-  pub at_mismatch : isMismatch answer ≡ true → Mismatching doc now
+  pub at_mismatch : is_mismatch answer ≡ true → Mismatching doc now
   at_mismatch e = let m = eqb-true (values_of answer).number 10 e in mismatches doc now does m (no_kind answer (omega arith))
 
-  pub at_unmatched : isUnmatched answer ≡ true → (opened now ≡ []) × (now.reader.settings.allow_unmatched_ends ≡ false)
+  pub at_unmatched : is_unmatched answer ≡ true → (opened now ≡ []) × (now.reader.settings.allow_unmatched_ends ≡ false)
   at_unmatched e = let m = eqb-true (values_of answer).number 11 e in unmatched doc now does m (no_kind answer (omega arith))
 
-  pub at_others : isStart answer ≡ false → is_end answer ≡ false → isMismatch answer ≡ false → opened (call doc now) ≡ opened now
+  pub at_others : is_start answer ≡ false → is_end answer ≡ false → is_mismatch answer ≡ false → opened (call doc now) ≡ opened now
   at_others s e m =
       keeps_all_lem doc now does
       (eqb-false (values_of answer).kind (kind_number Kind.Start) s)

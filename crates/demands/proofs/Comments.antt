@@ -17,7 +17,7 @@ use Rattle.emit.specs.Bang.{TwoHyphens, FirstPair}
 use Rattle.reader.specs.Step.{step}
 use Rattle.reader.proofs.Outside.{Commented, step_turn}
 use Rattle.reader.proofs.Rooms.{any_state}
-use Rattle.demands.specs.Answers.{isComment, isDoubleHyphen}
+use Rattle.demands.specs.Answers.{is_comment, is_double_hyphen}
 
 module _ (doc stack : List ℕ) (r : Reader) where
   abbrev answer : Answer
@@ -32,20 +32,20 @@ module _ (doc stack : List ℕ) (r : Reader) where
   says = any_state doc stack r (λ (s : Step). Commented doc r s.answer) (λ e. (step_turn doc stack r e).comment) of_bad
 
   -- what 9 says
-  nine : isDoubleHyphen answer ≡ true → (r.settings.check_comments ≡ true) × FirstPair doc (inner (values_of answer).piece 4 3) (values_of answer).place
+  nine : is_double_hyphen answer ≡ true → (r.settings.check_comments ≡ true) × FirstPair doc (inner (values_of answer).piece 4 3) (values_of answer).place
   nine e = says.refused (eqb-true (values_of answer).number 9 e)
 
   -- THEOREM: "With `check_comments`, a comment is refused (9) if a content `-` is followed by `-` (the closer's included)", and only then
-  pub a_comment_is_refused_exactly_for_its_hyphens : (isComment answer ≡ true) ⊎ (isDoubleHyphen answer ≡ true)
-      → (isDoubleHyphen answer ≡ true) ↔ ((r.settings.check_comments ≡ true) × TwoHyphens doc (inner (values_of answer).piece 4 3))
+  pub a_comment_is_refused_exactly_for_its_hyphens : (is_comment answer ≡ true) ⊎ (is_double_hyphen answer ≡ true)
+      → (is_double_hyphen answer ≡ true) ↔ ((r.settings.check_comments ≡ true) × TwoHyphens doc (inner (values_of answer).piece 4 3))
   a_comment_is_refused_exactly_for_its_hyphens which = (λ e. ((nine e).0, ((values_of answer).place, (nine e).1.has)), λ h. by which h.0 h.1)
     where
-      by : (isComment answer ≡ true) ⊎ (isDoubleHyphen answer ≡ true) → r.settings.check_comments ≡ true
-          → TwoHyphens doc (inner (values_of answer).piece 4 3) → isDoubleHyphen answer ≡ true
+      by : (is_comment answer ≡ true) ⊎ (is_double_hyphen answer ≡ true) → r.settings.check_comments ≡ true
+          → TwoHyphens doc (inner (values_of answer).piece 4 3) → is_double_hyphen answer ≡ true
       by (inl e) on two = absurd (says.passed (eqb-true (values_of answer).kind (kind_number Kind.Comment) e) on two)
       by (inr e) on two = e
 
   -- THEOREM: "refusal 9 has as its place the first hyphen of the first pair"
-  pub a_comment_is_refused_at_the_first_hyphen_of_its_first_pair : isDoubleHyphen answer ≡ true
+  pub a_comment_is_refused_at_the_first_hyphen_of_its_first_pair : is_double_hyphen answer ≡ true
       → FirstPair doc (inner (values_of answer).piece 4 3) (values_of answer).place
   a_comment_is_refused_at_the_first_hyphen_of_its_first_pair e = (nine e).1

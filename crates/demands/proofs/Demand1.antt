@@ -30,13 +30,13 @@ use Rattle.reader.specs.Step.{step_in, step_phase, step}
 use Rattle.reader.proofs.Outside.{Turned, rank_at, due, step_turn, call_numbers}
 use Rattle.reader.proofs.Rooms.{bad_step, any_state}
 use Rattle.demands.specs.Run.{World, said, call, run, AtRest}
-use Rattle.demands.specs.Answers.{AnEvent, ARefusal, isEof, isBadState, oneIs}
+use Rattle.demands.specs.Answers.{AnEvent, ARefusal, is_eof, is_bad_state, one_is}
 use Rattle.demands.specs.Open.{newest}
 use Rattle.demands.proofs.Held.{written_length, held_sound, held_turn, run_held}
 
 -- ---- any state
 
-bad_answer_lem : (r : Reader) → isBadState (bad_state r).answer ≡ true
+bad_answer_lem : (r : Reader) → is_bad_state (bad_state r).answer ≡ true
 unfolding bad_state
 bad_answer_lem r = refl
 
@@ -45,10 +45,10 @@ module _ (doc stack : List ℕ) (r : Reader) where
   sound_numbers e = call_numbers doc _ _ r (step doc stack r) (step_turn doc stack r e).names
 
   -- THEOREM: "17 exactly when" the state is not sound
-  pub bad_state_exactly_when_unsound : (isBadState (step doc stack r).answer ≡ true) ↔ (sound doc stack r ≡ false)
+  pub bad_state_exactly_when_unsound : (is_bad_state (step doc stack r).answer ≡ true) ↔ (sound doc stack r ≡ false)
   bad_state_exactly_when_unsound = (λ b. by (sound doc stack r) refl b, λ e. rw (bad_step doc stack r e) (bad_answer_lem r))
     where
-      by : (t : Bool) → sound doc stack r ≡ t → isBadState (step doc stack r).answer ≡ true → t ≡ false
+      by : (t : Bool) → sound doc stack r ≡ t → is_bad_state (step doc stack r).answer ≡ true → t ≡ false
       by true e b = absurd ((sound_numbers e).1 (eqb-true (values_of (step doc stack r).answer).number 17 b))
       by false e b = refl
 
@@ -87,7 +87,7 @@ module _ (doc stack : List ℕ) (r : Reader) where
 
 -- nothing is changed but the mark
 abbrev Marked : List ℕ → Reader → Step → Type 0
-Marked stack r s = isEof s.answer ≡ true → (s.reader ≡ marked r) × (written stack r.depth.0 s.answer ≡ stack)
+Marked stack r s = is_eof s.answer ≡ true → (s.reader ≡ marked r) × (written stack r.depth.0 s.answer ≡ stack)
 
 end_marks : (stack : List ℕ) (r : Reader) (last : Span) → r.phase ≡ Phase.Done → Marked stack r (ending r last (span r.position.0 r.position.0))
 unfolding ending stopped refused ended told moved marked written
@@ -135,7 +135,7 @@ module _ (doc stack : List ℕ) (c : Config) (short : length doc ≤ longest) wh
   every_state_is_sound n = held_sound doc c short (after n) (run_held doc c short stack n)
 
   -- THEOREM: no call of a run answers 17
-  pub no_bad_state : (n : ℕ) → isBadState (said doc (after n)) ≡ false
+  pub no_bad_state : (n : ℕ) → is_bad_state (said doc (after n)) ≡ false
   no_bad_state n = ne_eqb (values_of (said doc (after n))).number 17 (call_numbers doc _ _ _ _ (turn n).names).1
 
   -- THEOREM: the stack keeps its length, and no more names are open than it has room for
@@ -205,15 +205,15 @@ module _ (doc stack : List ℕ) (c : Config) (short : length doc ≤ longest) wh
       ends : step doc (after n).stack (after n).reader ≡ ended (after n).reader (span (after n).reader.position.0 (after n).reader.position.0)
       ends = eof_step doc (after n).stack (after n).reader (every_state_is_sound n) done none
 
-      pub done_says : isEof (said doc (after n)) ≡ true
+      pub done_says : is_eof (said doc (after n)) ≡ true
       unfolding ended told
-      done_says = ap (λ (s : Step). isEof s.answer) ends
+      done_says = ap (λ (s : Step). is_eof s.answer) ends
 
     module _ (told-once : (after n).reader.mark ≡ true) where
       rests : step doc (after n).stack (after n).reader ≡ ended (after n).reader (span (after n).reader.position.0 (after n).reader.position.0)
       rests = ends (told_before (after n).reader told-once)
 
-      pub rest_says : isEof (said doc (after n)) ≡ true
+      pub rest_says : is_eof (said doc (after n)) ≡ true
       rest_says = done_says (told_before (after n).reader told-once)
 
       pub rest_reader : (after (suc n)).reader ≡ (after n).reader
@@ -243,25 +243,25 @@ module _ (doc stack : List ℕ) (c : Config) (short : length doc ≤ longest) wh
           }
 
   -- THEOREM: "end of file comes by call number length + 2", the one after length + 1 calls; 18 comes before it, if it comes
-  pub eof_by_length_and_two : isEof (said doc (after (length doc + 1))) ≡ true
+  pub eof_by_length_and_two : is_eof (said doc (after (length doc + 1))) ≡ true
   eof_by_length_and_two = done_says (length doc + 1) done_after_length_and_one end_not_refused_after_length_and_one
 
-  pub eof_done : (n : ℕ) → isEof (said doc (after n)) ≡ true → ((after (suc n)).reader.phase ≡ Phase.Done) × ((after (suc n)).reader.mark ≡ true)
+  pub eof_done : (n : ℕ) → is_eof (said doc (after n)) ≡ true → ((after (suc n)).reader.phase ≡ Phase.Done) × ((after (suc n)).reader.mark ≡ true)
   unfolding run call
   eof_done n e =
       let f = (turn n).finish in
       ((f.over (eqb-true (values_of (said doc (after n))).kind (kind_number Kind.Eof) e)).0, rw e at f.mark)
 
   -- THEOREM: from an Eof on every call answers Eof and changes nothing
-  pub eof_stays : (n : ℕ) → isEof (said doc (after n)) ≡ true → (k : ℕ) → AtRest doc (after (suc n)) (after (k + suc n))
+  pub eof_stays : (n : ℕ) → is_eof (said doc (after n)) ≡ true → (k : ℕ) → AtRest doc (after (suc n)) (after (k + suc n))
   eof_stays n e k = let d = eof_done n e in done_and_marked_stays (suc n) d.0 d.1 k
 
   -- after an Eof the reader is done, and its mark is on
-  pub after_eof : (n : ℕ) → oneIs isEof (after n).answers ≡ true → ((after n).reader.phase ≡ Phase.Done) × ((after n).reader.mark ≡ true)
-  unfolding run call oneIs
+  pub after_eof : (n : ℕ) → one_is is_eof (after n).answers ≡ true → ((after n).reader.phase ≡ Phase.Done) × ((after n).reader.mark ≡ true)
+  unfolding run call one_is
   after_eof zero e = clash false e refl
   after_eof (suc n) e =
-      pick_cases (λ (b : Bool). b ≡ true → ((after (suc n)).reader.phase ≡ Phase.Done) × ((after (suc n)).reader.mark ≡ true)) (isEof (said doc (after n))) true (oneIs isEof (after n).answers)
+      pick_cases (λ (b : Bool). b ≡ true → ((after (suc n)).reader.phase ≡ Phase.Done) × ((after (suc n)).reader.mark ≡ true)) (is_eof (said doc (after n))) true (one_is is_eof (after n).answers)
       (λ e _. eof_done n e)
       (λ _ e. let d = after_eof n e in rest_again n d.0 d.1)
       e

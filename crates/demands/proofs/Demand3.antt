@@ -26,7 +26,7 @@ use Rattle.reader.specs.Names.{name_of, bytes}
 use Rattle.reader.specs.Step.{step}
 use Rattle.reader.proofs.Outside.{name_fits}
 use Rattle.demands.specs.Run.{World, said, call, run}
-use Rattle.demands.specs.Answers.{isStart, is_end, isMismatch, isUnmatched, count}
+use Rattle.demands.specs.Answers.{is_start, is_end, is_mismatch, is_unmatched, count}
 use Rattle.demands.specs.Open.{entries, opened, newest, left_open, strays}
 use Rattle.demands.proofs.Held.{other_writes, entries_length, held_turn, run_held}
 use Rattle.demands.proofs.Clauses.{Closing, Straying, tally, does, setting, at_start, tag_at_start, at_no_start, at_end, at_mismatch, at_unmatched, at_others}
@@ -46,24 +46,24 @@ module _ (doc stack : List ℕ) (c : Config) (short : length doc ≤ longest) (n
   in_document = let t = held_turn doc c short before (run_held doc c short stack n) in omega (arith, t.left, t.within)
 
   -- THEOREM: "each Start adds its own name"
-  pub start_adds_its_name : isStart answer ≡ true → opened after ≡ name_of answer ∷ opened before
+  pub start_adds_its_name : is_start answer ≡ true → opened after ≡ name_of answer ∷ opened before
   unfolding run
   start_adds_its_name e = at_start doc stack c short n e
 
   -- THEOREM: that is the name of its tag: the bytes of its content before the first white space
-  pub the_name_is_its_tag's : isStart answer ≡ true
+  pub the_name_is_its_tag's : is_start answer ≡ true
       → bytes doc (name_of answer) ≡ take (name_len (bytes doc (values_of answer).content)) (bytes doc (values_of answer).content)
   the_name_is_its_tag's e =
       let t = tag_at_start doc stack c short n e in
       rw (← t.named) (part_first doc _ _ _ t.ordered (omega (arith, t.within, in_document)) (name_fits doc _ t))
 
   -- THEOREM: its tag, the answer's piece, begins with `<`, and the name stands right after it
-  pub the_name_stands_right_after_the_lt : isStart answer ≡ true
+  pub the_name_stands_right_after_the_lt : is_start answer ≡ true
       → (get_or doc (values_of answer).piece.from 0 ≡ lt) × ((name_of answer).from ≡ (values_of answer).piece.from + 1)
   the_name_stands_right_after_the_lt e = let t = tag_at_start doc stack c short n e in (t.opens, t.starts)
 
   -- THEOREM: so the bytes of the tag are `<`, the name and a rest
-  pub its_tag_begins_with_lt_and_the_name : isStart answer ≡ true
+  pub its_tag_begins_with_lt_and_the_name : is_start answer ≡ true
       → begins (bytes doc (values_of answer).piece) (lt ∷ bytes doc (name_of answer)) ≡ true
   its_tag_begins_with_lt_and_the_name e =
       let t = tag_at_start doc stack c short n e in
@@ -76,7 +76,7 @@ module _ (doc stack : List ℕ) (c : Config) (short : length doc ≤ longest) (n
       rw (part_next doc from to (omega arith) turn.within, t.opens, name) (begins_first lt (values_of answer).name (part doc (from + 1) to))
 
   -- THEOREM: "and nothing else adds one": what is open after it was open before
-  pub nothing_else_adds : isStart answer ≡ false → (opened after ≡ opened before) ⊎ (opened before ≡ newest before ∷ opened after)
+  pub nothing_else_adds : is_start answer ≡ false → (opened after ≡ opened before) ⊎ (opened before ≡ newest before ∷ opened after)
   unfolding run
   nothing_else_adds e = at_no_start doc stack c short n e
 
@@ -98,26 +98,26 @@ module _ (doc stack : List ℕ) (c : Config) (short : length doc ≤ longest) (n
     end_carries_its_bytes on e = (closing e).carries (setting doc stack c short n (λ (s : Config). s.check_end_names) true on)
 
   -- THEOREM: "a mismatch takes it away and gives no End"
-  pub mismatch_takes_the_latest : isMismatch answer ≡ true → (opened before ≡ newest before ∷ opened after) × (is_end answer ≡ false)
+  pub mismatch_takes_the_latest : is_mismatch answer ≡ true → (opened before ≡ newest before ∷ opened after) × (is_end answer ≡ false)
   unfolding run
   mismatch_takes_the_latest e = ((at_mismatch doc stack c short n e).takes, (at_mismatch doc stack c short n e).no_end)
 
   -- THEOREM: it tells the two names, whose bytes differ
-  pub mismatch_tells_both : isMismatch answer ≡ true
+  pub mismatch_tells_both : is_mismatch answer ≡ true
       → ((values_of answer).expected ≡ newest before) × (bytes doc (values_of answer).found ≡ bytes doc (newest before) → ⊥)
   mismatch_tells_both e = ((at_mismatch doc stack c short n e).expects, (at_mismatch doc stack c short n e).differs)
 
   -- THEOREM: "an unmatched end is refused only with nothing open"
-  pub unmatched_with_nothing_open : isUnmatched answer ≡ true → opened before ≡ []
+  pub unmatched_with_nothing_open : is_unmatched answer ≡ true → opened before ≡ []
   unmatched_with_nothing_open e = (at_unmatched doc stack c short n e).0
 
   -- THEOREM: "no other answer takes a name away"
-  pub no_other_takes_a_name : isStart answer ≡ false → is_end answer ≡ false → isMismatch answer ≡ false → opened after ≡ opened before
+  pub no_other_takes_a_name : is_start answer ≡ false → is_end answer ≡ false → is_mismatch answer ≡ false → opened after ≡ opened before
   unfolding run
   no_other_takes_a_name s e m = at_others doc stack c short n s e m
 
   -- THEOREM: only a Start writes on the stack
-  pub only_a_start_writes : isStart answer ≡ false → after.stack ≡ before.stack
+  pub only_a_start_writes : is_start answer ≡ false → after.stack ≡ before.stack
   unfolding run call
   only_a_start_writes e =
       other_writes answer before.stack before.reader.depth.0 (eqb-false (values_of answer).kind (kind_number Kind.Start) e)
@@ -136,7 +136,7 @@ module _ (doc stack : List ℕ) (c : Config) (short : length doc ≤ longest) wh
 
   -- THEOREM: with any settings, as many Starts and Ends with nothing open as Ends, mismatches and open names
   pub all_counts : (n : ℕ)
-      → count isStart (answers n) + strays (answers n) ≡ count is_end (answers n) + count isMismatch (answers n) + length (opened (run doc stack c n))
+      → count is_start (answers n) + strays (answers n) ≡ count is_end (answers n) + count is_mismatch (answers n) + length (opened (run doc stack c n))
   unfolding run call count strays fresh entries
   all_counts zero = refl
   all_counts (suc n) =
@@ -159,5 +159,5 @@ module _ (doc stack : List ℕ) (c : Config) (short : length doc ≤ longest) wh
 
     -- THEOREM: "Starts = Ends + mismatches + names open"
     pub starts_are_ends_mismatches_and_open : (n : ℕ)
-        → count isStart (answers n) ≡ count is_end (answers n) + count isMismatch (answers n) + length (opened (run doc stack c n))
+        → count is_start (answers n) ≡ count is_end (answers n) + count is_mismatch (answers n) + length (opened (run doc stack c n))
     starts_are_ends_mismatches_and_open n = omega (arith, all_counts n, no_strays n)

@@ -46,7 +46,7 @@ use Rattle.reader.specs.Sound.{is_in_place, in_place_in, sound}
 use Rattle.reader.specs.Step.{emitted_as, emitted, checked, taken, skipped, step_text, step_in, step_phase, step}
 use Rattle.reader.proofs.Outside.{step_turn}
 use Rattle.reader.proofs.Rooms.{any_state}
-use Rattle.demands.specs.Answers.{isEof, isUnclosed}
+use Rattle.demands.specs.Answers.{is_eof, is_unclosed}
 use Rattle.demands.specs.Eight.{eight, reader8, only8, emitted_as8, checked8, taken8, step_in8, step8}
 
 -- ---- the same but for the ninth setting and the mark
@@ -265,13 +265,13 @@ same_answer : {s b : Step} → Same s b → s.answer ≡ b.answer
 unfolding only8
 same_answer e = ap (λ (x : Step). x.answer) e.only
 
-eof_told : (r : Reader) (piece : Span) {s : Step} → s ≡ ended r piece → isEof s.answer ≡ true
+eof_told : (r : Reader) (piece : Span) {s : Step} → s ≡ ended r piece → is_eof s.answer ≡ true
 unfolding ended told
-eof_told r piece e = ap (λ (x : Step). isEof x.answer) e
+eof_told r piece e = ap (λ (x : Step). is_eof x.answer) e
 
-unclosed_told : (r : Reader) (place : Position) (piece : Span) {s : Step} → s ≡ stopped r Error.UnclosedElements place piece → isUnclosed s.answer ≡ true
+unclosed_told : (r : Reader) (place : Position) (piece : Span) {s : Step} → s ≡ stopped r Error.UnclosedElements place piece → is_unclosed s.answer ≡ true
 unfolding stopped refused
-unclosed_told r place piece e = ap (λ (x : Step). isUnclosed x.answer) e
+unclosed_told r place piece e = ap (λ (x : Step). is_unclosed x.answer) e
 
 -- the call with eight settings has no 18
 no_18_with_eight : (doc stack : List ℕ) (r : Reader) → (values_of (step8 doc stack r).answer).number ≡ 18 → ⊥
@@ -292,7 +292,7 @@ module _ (doc stack : List ℕ) (r : Reader) where
     pub ours : step doc stack r ≡ stopped r Error.UnclosedElements (at last.from) piece
     pub theirs : step8 doc stack r ≡ ended (reader8 r) piece
 
-  instead_of : isUnclosed (answer doc stack r) ≡ true → Instead
+  instead_of : is_unclosed (answer doc stack r) ≡ true → Instead
   instead_of u = by (adds doc stack r)
     where
       by : Adds r last (step doc stack r) (step8 doc stack r) → Instead
@@ -300,21 +300,21 @@ module _ (doc stack : List ℕ) (r : Reader) where
           absurd (no_18_with_eight doc stack r (ap (λ (a : Answer). (values_of a).number) (sym (same_answer e)) ∙ eqb-true (values_of (answer doc stack r)).number 18 u))
       by (instead piece on e f) = record { piece = piece; unclosed = on; ours = e; theirs = f }
 
-  due_there : isEof (answer8 doc stack r) ≡ true → refuses_end r ≡ true → isUnclosed (answer doc stack r) ≡ true
+  due_there : is_eof (answer8 doc stack r) ≡ true → refuses_end r ≡ true → is_unclosed (answer doc stack r) ≡ true
   due_there t on = by (adds doc stack r)
     where
-      by : Adds r last (step doc stack r) (step8 doc stack r) → isUnclosed (answer doc stack r) ≡ true
+      by : Adds r last (step doc stack r) (step8 doc stack r) → is_unclosed (answer doc stack r) ≡ true
       by (same e) =
           let k = ap (λ (a : Answer). (values_of a).kind) (same_answer e) ∙ eqb-true (values_of (answer8 doc stack r)).kind (kind_number Kind.Eof) t in
           clash _ on (none_at_eof doc stack r k)
       by (instead piece on e f) = unclosed_told r _ piece e
 
   -- THEOREM: "18 is given exactly when Eof would be, the setting is on, a name is open and the mark is off"
-  pub eighteen_exactly_when : (isUnclosed (answer doc stack r) ≡ true) ↔ ((isEof (answer8 doc stack r) ≡ true) × (refuses_end r ≡ true))
+  pub eighteen_exactly_when : (is_unclosed (answer doc stack r) ≡ true) ↔ ((is_eof (answer8 doc stack r) ≡ true) × (refuses_end r ≡ true))
   eighteen_exactly_when = (λ u. let i = instead_of u in (eof_told (reader8 r) i.piece i.theirs, i.unclosed), λ p. due_there p.0 p.1)
 
   -- THEOREM: with any settings, every other answer is that of the call with eight settings, and the reader that is left is, in all but the ninth setting and the mark
-  pub every_other_answer_is_that_of_eight_settings : isUnclosed (answer doc stack r) ≡ false → only8 (step doc stack r) ≡ only8 (step8 doc stack r)
+  pub every_other_answer_is_that_of_eight_settings : is_unclosed (answer doc stack r) ≡ false → only8 (step doc stack r) ≡ only8 (step8 doc stack r)
   every_other_answer_is_that_of_eight_settings u = by (adds doc stack r)
     where
       by : Adds r last (step doc stack r) (step8 doc stack r) → only8 (step doc stack r) ≡ only8 (step8 doc stack r)
@@ -322,7 +322,7 @@ module _ (doc stack : List ℕ) (r : Reader) where
       by (instead piece on e f) = clash _ (unclosed_told r _ piece e) u
 
   -- THEOREM: "Its place is the start of the latest open name; piece and position are those of the Eof it replaces, names and stack are kept and the phase is Done"
-  pub eighteen_stands_for_that_eof : isUnclosed (answer doc stack r) ≡ true
+  pub eighteen_stands_for_that_eof : is_unclosed (answer doc stack r) ≡ true
       → ((values_of (answer doc stack r)).place ≡ last.from)
       × ((values_of (answer doc stack r)).piece ≡ (values_of (answer8 doc stack r)).piece)
       × ((step doc stack r).reader.position ≡ (step8 doc stack r).reader.position)

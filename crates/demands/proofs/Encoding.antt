@@ -25,7 +25,7 @@ use Rattle.reader.proofs.Passed.{passes_octets}
 use Rattle.reader.proofs.States.{sound_true}
 use Rattle.reader.proofs.Rooms.{any_state}
 use Rattle.demands.specs.Run.{World, said, call, run}
-use Rattle.demands.specs.Answers.{AnEvent, isEncoding}
+use Rattle.demands.specs.Answers.{AnEvent, is_encoding}
 use Rattle.demands.proofs.Demand1.{turn, done_stays, every_state_is_sound}
 
 -- ---- any document, any lent stack, any state
@@ -36,7 +36,7 @@ module _ (doc stack : List ℕ) (r : Reader) where
 
   -- THEOREM: 13 has as its place "the first byte of the first ill-formed sequence" of its piece: it lies in the piece, all of the piece before it is well
   -- formed, and no well-formed character starts there
-  pub ill_formed_bytes_are_refused_at_the_first : isEncoding answer ≡ true → FirstIll doc (values_of answer).piece (values_of answer).place
+  pub ill_formed_bytes_are_refused_at_the_first : is_encoding answer ≡ true → FirstIll doc (values_of answer).piece (values_of answer).place
   unfolding bad_state
   ill_formed_bytes_are_refused_at_the_first e =
       any_state doc stack r (λ (s : Step). (values_of s.answer).number ≡ 13 → FirstIll doc (values_of s.answer).piece (values_of s.answer).place)
@@ -84,7 +84,7 @@ module _ (doc stack : List ℕ) (c : Config) (short : length doc ≤ longest) wh
       ((turn doc stack c short n).encoding.going going)
 
   -- THEOREM: so 13 has as its place the first ill-formed byte of the document
-  pub the_document's_first_ill_formed_byte : (n : ℕ) → isEncoding (said doc (after n)) ≡ true → FirstIll doc (span 0 (length doc)) (values_of (said doc (after n))).place
+  pub the_document's_first_ill_formed_byte : (n : ℕ) → is_encoding (said doc (after n)) ≡ true → FirstIll doc (span 0 (length doc)) (values_of (said doc (after n))).place
   the_document's_first_ill_formed_byte n e =
       let t = turn doc stack c short n in
       let number = eqb-true (values_of (said doc (after n))).number 13 e in

@@ -15,7 +15,7 @@ use Rattle.state.specs.Limits.{longest}
 use Rattle.state.specs.Make.{fresh, made}
 use Rattle.reader.specs.Step.{Stepped}
 use Rattle.demands.specs.Run.{World, said, call, run}
-use Rattle.demands.specs.Answers.{isStart, is_end, isEof, isMismatch, count, latestIs}
+use Rattle.demands.specs.Answers.{is_start, is_end, is_eof, is_mismatch, count, latest_is}
 use Rattle.demands.specs.Calls.{Promise, Advanced, Advances, onward, Calls, none, more}
 use Rattle.demands.specs.Open.{opened}
 use Rattle.demands.proofs.Demand1.{a_reader_made_is_a_run's, eof_by_length_and_two, eof_stays}
@@ -29,13 +29,13 @@ a_call_that_meets_its_promise_is_the_run's doc w s left p = rw (p.outcome, p.slo
 
 -- from call number length + 2 on every call of a run answers Eof
 module _ (doc stack : List ℕ) (c : Config) (short : length doc ≤ longest) where
-  eof_from : (k : ℕ) → isEof (said doc (run doc stack c (k + (length doc + 1)))) ≡ true
+  eof_from : (k : ℕ) → is_eof (said doc (run doc stack c (k + (length doc + 1)))) ≡ true
   eof_from zero = rw (zero-add (length doc + 1)) (eof_by_length_and_two doc stack c short)
   eof_from (suc k) =
       let e : suc k + (length doc + 1) ≡ k + suc (length doc + 1) = omega arith in
       rw e (eof_stays doc stack c short (length doc + 1) (eof_by_length_and_two doc stack c short) k).says
 
-  pub latest_eof : (n : ℕ) → length doc + 2 ≤ n → latestIs isEof (run doc stack c n).answers ≡ true
+  pub latest_eof : (n : ℕ) → length doc + 2 ≤ n → latest_is is_eof (run doc stack c n).answers ≡ true
   unfolding run call
   latest_eof zero h = absurd (omega arith)
   latest_eof (suc n) h =
@@ -80,13 +80,13 @@ module _ (Kept : Promise) (advances : Advances Kept) (doc stack : List ℕ) (c :
   -- ---- the demands over calls, with no step left to the reader
 
   -- THEOREM: "end of file comes by call number length + 2", and stays
-  pub after_length_and_two_calls_the_latest_answer_is_eof : {n : ℕ} {w : World} → Calls Kept doc stack c n w → length doc + 2 ≤ n → latestIs isEof w.answers ≡ true
+  pub after_length_and_two_calls_the_latest_answer_is_eof : {n : ℕ} {w : World} → Calls Kept doc stack c n w → length doc + 2 ≤ n → latest_is is_eof w.answers ≡ true
   after_length_and_two_calls_the_latest_answer_is_eof {n} calls enough =
-      what_holds_of_a_run_holds_of_calls (λ (w : World). latestIs isEof w.answers ≡ true) calls (λ short. latest_eof doc stack c short n enough)
+      what_holds_of_a_run_holds_of_calls (λ (w : World). latest_is is_eof w.answers ≡ true) calls (λ short. latest_eof doc stack c short n enough)
 
   -- THEOREM: "Starts = Ends + mismatches + names open"
   pub starts_are_ends_mismatches_and_open_over_calls : {n : ℕ} {w : World} → Calls Kept doc stack c n w → c.allow_unmatched_ends ≡ false
-      → count isStart w.answers ≡ count is_end w.answers + count isMismatch w.answers + length (opened w)
+      → count is_start w.answers ≡ count is_end w.answers + count is_mismatch w.answers + length (opened w)
   starts_are_ends_mismatches_and_open_over_calls {n} calls off =
-      what_holds_of_a_run_holds_of_calls (λ (w : World). count isStart w.answers ≡ count is_end w.answers + count isMismatch w.answers + length (opened w)) calls
+      what_holds_of_a_run_holds_of_calls (λ (w : World). count is_start w.answers ≡ count is_end w.answers + count is_mismatch w.answers + length (opened w)) calls
       (λ short. starts_are_ends_mismatches_and_open doc stack c short off n)

@@ -27,7 +27,7 @@ use Rattle.reader.proofs.Outside.{Spent, not_done, step_turn}
 use Rattle.reader.proofs.Rooms.{any_state}
 use Rattle.reader.proofs.Passed.{skip_from, skips_here, bom_bytes}
 use Rattle.demands.specs.Run.{World, said, call, run, AtRest}
-use Rattle.demands.specs.Answers.{isEof, isUnclosed, isEnding, count, oneIs}
+use Rattle.demands.specs.Answers.{is_eof, is_unclosed, is_ending, count, one_is}
 use Rattle.demands.specs.Calls.{Promise, Advances, Calls}
 use Rattle.demands.specs.Laid.{What, Laid, laid, gap, skipped_before, layout, pieces, Chained, AmongParts, is_piece, has_byte, SetOnce}
 use Rattle.demands.proofs.Clauses.{setting}
@@ -185,35 +185,35 @@ module _ (doc stack : List ℕ) (c : Config) (short : length doc ≤ longest) wh
   -- ---- the end
 
   -- a reader that is done has come to the end of the document, unless a refusal ended the run
-  spent : (n : ℕ) → (after n).reader.phase ≡ Phase.Done → oneIs isEnding (after n).answers ≡ false → position n ≡ length doc
-  unfolding run call fresh oneIs
+  spent : (n : ℕ) → (after n).reader.phase ≡ Phase.Done → one_is is_ending (after n).answers ≡ false → position n ≡ length doc
+  unfolding run call fresh one_is
   spent zero d none = absurd (not_done Phase.Init (omega arith) d)
   spent (suc n) d none = by ((turn doc stack c short n).finish.done d) (spent n)
     where
-      by : (isEnding (said doc (after n)) ≡ true) ⊎ Spent doc (after n).reader (position (suc n))
-          → ((after n).reader.phase ≡ Phase.Done → oneIs isEnding (after n).answers ≡ false → position n ≡ length doc) → position (suc n) ≡ length doc
-      by (inl on) earlier = clash _ on (pick_neither (isEnding (said doc (after n))) _ none).0
+      by : (is_ending (said doc (after n)) ≡ true) ⊎ Spent doc (after n).reader (position (suc n))
+          → ((after n).reader.phase ≡ Phase.Done → one_is is_ending (after n).answers ≡ false → position n ≡ length doc) → position (suc n) ≡ length doc
+      by (inl on) earlier = clash _ on (pick_neither (is_ending (said doc (after n))) _ none).0
       by (inr (inl e)) earlier = e
-      by (inr (inr e)) earlier = e.1 ∙ earlier e.0 (pick_neither (isEnding (said doc (after n))) _ none).1
+      by (inr (inr e)) earlier = e.1 ∙ earlier e.0 (pick_neither (is_ending (said doc (after n))) _ none).1
 
   -- THEOREM: at Eof, unless a refusal ended the run, the position is the length
-  pub at_eof_the_position_is_the_length : (n : ℕ) → oneIs isEof (after n).answers ≡ true → oneIs isEnding (after n).answers ≡ false → position n ≡ length doc
+  pub at_eof_the_position_is_the_length : (n : ℕ) → one_is is_eof (after n).answers ≡ true → one_is is_ending (after n).answers ≡ false → position n ≡ length doc
   at_eof_the_position_is_the_length n eof none = spent n (after_eof doc stack c short n eof).0 none
 
   -- THEOREM: so every byte of the document is in exactly one part
-  pub at_eof_every_byte_of_the_document_is_set : (n : ℕ) → oneIs isEof (after n).answers ≡ true → oneIs isEnding (after n).answers ≡ false
+  pub at_eof_every_byte_of_the_document_is_set : (n : ℕ) → one_is is_eof (after n).answers ≡ true → one_is is_ending (after n).answers ≡ false
       → SetOnce doc c (pieces (after n).answers) (length doc)
   at_eof_every_byte_of_the_document_is_set n eof none =
       subst (SetOnce doc c (pieces (after n).answers)) (at_eof_the_position_is_the_length n eof none) (each_byte_is_set_once n)
 
   -- after a refusal that ends the run the reader is done, with the mark on
-  module _ (n : ℕ) (ending : isEnding (said doc (after n)) ≡ true) where
+  module _ (n : ℕ) (ending : is_ending (said doc (after n)) ≡ true) where
     done_then : (after (suc n)).reader.phase ≡ Phase.Done
     unfolding run call
     done_then = (turn doc stack c short n).finish.stops ending
 
     marked_then : (after (suc n)).reader.mark ≡ true
-    marked_then = marks_when_told doc stack c short n (pick_either (isEof (said doc (after n))) _ (pick_either (isUnclosed (said doc (after n))) _ ending))
+    marked_then = marks_when_told doc stack c short n (pick_either (is_eof (said doc (after n))) _ (pick_either (is_unclosed (said doc (after n))) _ ending))
 
     -- THEOREM: so every call after it answers Eof, and changes nothing
     pub after_a_refusal_that_ends_the_run_all_stays : (k : ℕ) → AtRest doc (after (suc n)) (after (k + suc n))
@@ -225,13 +225,13 @@ module _ (doc stack : List ℕ) (c : Config) (short : length doc ≤ longest) wh
     marked : (after n).reader.mark ≡ true
     position : position n ≡ (values_of a).piece.to
 
-  ended : (n : ℕ) (later before : List Answer) (a : Answer) → (after n).answers ≡ later ++ (a ∷ before) → isEnding a ≡ true → Ended n a
+  ended : (n : ℕ) (later before : List Answer) (a : Answer) → (after n).answers ≡ later ++ (a ∷ before) → is_ending a ≡ true → Ended n a
   unfolding run call
   ended zero [] before a e ending = let z : ◌≡◌ {A = ℕ} 0 1 = cc in absurd (omega arith)
   ended zero (b ∷ later) before a e ending = let z : ◌≡◌ {A = ℕ} 0 1 = cc in absurd (omega arith)
   ended (suc n) [] before a e ending =
       let same : said doc (after n) ≡ a = cc in
-      let on : isEnding (said doc (after n)) ≡ true = ap isEnding same ∙ ending in
+      let on : is_ending (said doc (after n)) ≡ true = ap is_ending same ∙ ending in
       record { done = done_then n on; marked = marked_then n on; position = (turn doc stack c short n).left ∙ ap (λ (x : Answer). (values_of x).piece.to) same }
   ended (suc n) (b ∷ later) before a e ending =
       let x = ended n later before a (cc) ending in
@@ -244,7 +244,7 @@ module _ (doc stack : List ℕ) (c : Config) (short : length doc ≤ longest) wh
 
   -- THEOREM: where one of the answers is a refusal that ended the run, the position is the end of its piece, and what lies behind it is left
   pub a_refusal_that_ended_the_run_leaves_what_is_behind_it : (n : ℕ) (later before : List Answer) (a : Answer)
-      → (after n).answers ≡ later ++ (a ∷ before) → isEnding a ≡ true → position n ≡ (values_of a).piece.to
+      → (after n).answers ≡ later ++ (a ∷ before) → is_ending a ≡ true → position n ≡ (values_of a).piece.to
   a_refusal_that_ended_the_run_leaves_what_is_behind_it n later before a e ending = (ended n later before a e ending).position
 
 -- ---- calls
@@ -257,16 +257,16 @@ module _ (Kept : Promise) (advances : Advances Kept) (doc stack : List ℕ) (c :
       (λ short. each_byte_is_set_once doc stack c short n)
 
   -- THEOREM: and at Eof, unless a refusal ended the run, the position is the length
-  pub at_eof_the_position_is_the_length_over_calls : oneIs isEof w.answers ≡ true → oneIs isEnding w.answers ≡ false → w.reader.position.0 ≡ length doc
+  pub at_eof_the_position_is_the_length_over_calls : one_is is_eof w.answers ≡ true → one_is is_ending w.answers ≡ false → w.reader.position.0 ≡ length doc
   at_eof_the_position_is_the_length_over_calls =
       what_holds_of_a_run_holds_of_calls Kept advances doc stack c
-      (λ (v : World). oneIs isEof v.answers ≡ true → oneIs isEnding v.answers ≡ false → v.reader.position.0 ≡ length doc) calls
+      (λ (v : World). one_is is_eof v.answers ≡ true → one_is is_ending v.answers ≡ false → v.reader.position.0 ≡ length doc) calls
       (λ short. at_eof_the_position_is_the_length doc stack c short n)
 
   -- THEOREM: where one did, it is the end of its piece
   pub a_refusal_that_ended_the_run_leaves_what_is_behind_it_over_calls : (later before : List Answer) (a : Answer)
-      → w.answers ≡ later ++ (a ∷ before) → isEnding a ≡ true → w.reader.position.0 ≡ (values_of a).piece.to
+      → w.answers ≡ later ++ (a ∷ before) → is_ending a ≡ true → w.reader.position.0 ≡ (values_of a).piece.to
   a_refusal_that_ended_the_run_leaves_what_is_behind_it_over_calls =
       what_holds_of_a_run_holds_of_calls Kept advances doc stack c
-      (λ (v : World). (later before : List Answer) (a : Answer) → v.answers ≡ later ++ (a ∷ before) → isEnding a ≡ true → v.reader.position.0 ≡ (values_of a).piece.to) calls
+      (λ (v : World). (later before : List Answer) (a : Answer) → v.answers ≡ later ++ (a ∷ before) → is_ending a ≡ true → v.reader.position.0 ≡ (values_of a).piece.to) calls
       (λ short. a_refusal_that_ended_the_run_leaves_what_is_behind_it doc stack c short n)

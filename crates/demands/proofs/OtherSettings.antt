@@ -22,7 +22,7 @@ use Rattle.emit.specs.Start.{slashed}
 use Rattle.reader.specs.Names.{name_of, bytes}
 use Rattle.reader.specs.Step.{step_phase, step}
 use Rattle.demands.specs.Run.{World, said, call, run}
-use Rattle.demands.specs.Answers.{isStart, is_end, isMismatch, isUnmatched}
+use Rattle.demands.specs.Answers.{is_start, is_end, is_mismatch, is_unmatched}
 use Rattle.demands.specs.Open.{opened, newest, rest}
 use Rattle.demands.proofs.Clauses.{Closing, Straying, setting, tag_at_start, at_end, at_mismatch, at_unmatched}
 use Rattle.demands.proofs.Demand1.{turn, every_state_is_sound}
@@ -58,15 +58,15 @@ module _ (doc stack : List ℕ) (c : Config) (short : length doc ≤ longest) (n
       by (inr x) = absurd (some x.none)
 
   -- THEOREM: with end checks off there is no mismatch
-  pub no_mismatch_unchecked : c.check_end_names ≡ false → isMismatch answer ≡ false
+  pub no_mismatch_unchecked : c.check_end_names ≡ false → is_mismatch answer ≡ false
   no_mismatch_unchecked off =
-      must_fail (isMismatch answer)
+      must_fail (is_mismatch answer)
       (λ e. clash _ (at_mismatch doc stack c short n e).checks (setting doc stack c short n (λ (s : Config). s.check_end_names) false off))
 
   -- THEOREM: where unmatched ends are let through none is refused
-  pub none_unmatched_where_allowed : c.allow_unmatched_ends ≡ true → isUnmatched answer ≡ false
+  pub none_unmatched_where_allowed : c.allow_unmatched_ends ≡ true → is_unmatched answer ≡ false
   none_unmatched_where_allowed on =
-      must_fail (isUnmatched answer)
+      must_fail (is_unmatched answer)
       (λ e. clash _ (setting doc stack c short n (λ (s : Config). s.allow_unmatched_ends) true on) (at_unmatched doc stack c short n e).1)
 
 -- ---- expanded empty elements
@@ -96,13 +96,13 @@ module _ (doc stack : List ℕ) (c : Config) (short : length doc ≤ longest) wh
   abbrev first : List Span → Span
   first ns = get_or ns 0 (span 0 0)
 
-  inside_after : (n : ℕ) → isStart (said doc (at n)) ≡ true → slashed doc (values_of (said doc (at n))).piece ≡ true → (at (suc n)).reader.phase ≡ Phase.InsideEmpty
+  inside_after : (n : ℕ) → is_start (said doc (at n)) ≡ true → slashed doc (values_of (said doc (at n))).piece ≡ true → (at (suc n)).reader.phase ≡ Phase.InsideEmpty
   unfolding run call
   inside_after n start ends = (tag_at_start doc stack c short n start).expands ends
 
   -- THEOREM: with any settings, where the tag of a Start ends in `/>`, the next answer is its End, whose content is the Start's own name; then those names are
   -- open that were before the two
-  pub expanded_end_has_its_start's_name : (n : ℕ) → isStart (said doc (at n)) ≡ true → slashed doc (values_of (said doc (at n))).piece ≡ true
+  pub expanded_end_has_its_start's_name : (n : ℕ) → is_start (said doc (at n)) ≡ true → slashed doc (values_of (said doc (at n))).piece ≡ true
       → (is_end (said doc (at (suc n))) ≡ true)
       × ((values_of (said doc (at (suc n)))).content ≡ name_of (said doc (at n)))
       × (opened (at (suc (suc n))) ≡ opened (at n))
@@ -122,7 +122,7 @@ module _ (doc stack : List ℕ) (c : Config) (short : length doc ≤ longest) wh
       by inside adds (inr none) = let z : ◌≡◌ {A = ℕ} 0 (suc (length (opened (at n)))) = ap length (sym none.0 ∙ adds) in absurd (omega arith)
 
   -- THEOREM: "the End of an expanded empty has an empty piece", where its Start's piece ends
-  pub expanded_end_has_an_empty_piece : (n : ℕ) → isStart (said doc (at n)) ≡ true → slashed doc (values_of (said doc (at n))).piece ≡ true
+  pub expanded_end_has_an_empty_piece : (n : ℕ) → is_start (said doc (at n)) ≡ true → slashed doc (values_of (said doc (at n))).piece ≡ true
       → (values_of (said doc (at (suc n)))).piece ≡ span (values_of (said doc (at n))).piece.to (values_of (said doc (at n))).piece.to
   unfolding run call
   expanded_end_has_an_empty_piece n start ends =

@@ -44,7 +44,7 @@ use Rattle.reader.specs.Step.{emitted_as, emitted, checked, taken, step_text, st
 use Rattle.reader.specs.Sound.{sound}
 use Rattle.reader.proofs.Outside.{step_turn, utf8_cases}
 use Rattle.reader.proofs.Rooms.{any_state}
-use Rattle.attributes.specs.Answers.{values_of as itemValues}
+use Rattle.attributes.specs.Answers.{values_of as item_values}
 use Rattle.attributes.specs.Tag.{attribute_at}
 use Rattle.attributes.proofs.Theorems.{the_first_call_is_never_17}
 use Rattle.demands.specs.Run.{said, run}
@@ -191,7 +191,7 @@ module _ (doc stack : List ℕ) (c : Config) (n : ℕ) where
 
   -- THEOREM: for a Start or an Empty of a run, whatever the settings, the first call for an attribute is never 17
   pub the_first_attribute_of_a_tag_is_never_17 : is_tag tag_said ≡ true
-      → (itemValues (attribute_at content_bytes (values_of tag_said).name (values_of tag_said).name)).number ≡ 17 → ⊥
+      → (item_values (attribute_at content_bytes (values_of tag_said).name (values_of tag_said).name)).number ≡ 17 → ⊥
   the_first_attribute_of_a_tag_is_never_17 e f =
       let t = a_tag's_name_length_is_its_content's doc (run doc stack c n).stack (run doc stack c n).reader e in
-      the_first_call_is_never_17 content_bytes (ap (λ (m : ℕ). (itemValues (attribute_at content_bytes m m)).number) (sym t.named) ∙ f)
+      the_first_call_is_never_17 content_bytes (ap (λ (m : ℕ). (item_values (attribute_at content_bytes m m)).number) (sym t.named) ∙ f)

@@ -24,7 +24,7 @@ use Rattle.reader.specs.Step.{step}
 use Rattle.reader.proofs.Outside.{step_turn}
 use Rattle.reader.proofs.Rooms.{any_state}
 use Rattle.demands.specs.Run.{World, said, call, run}
-use Rattle.demands.specs.Answers.{isStart, is_end, isEof, isMismatch, isUnclosed, isEnding, count, oneIs}
+use Rattle.demands.specs.Answers.{is_start, is_end, is_eof, is_mismatch, is_unclosed, is_ending, count, one_is}
 use Rattle.demands.specs.Open.{entries, opened, newest}
 use Rattle.demands.proofs.Held.{entries_length}
 use Rattle.demands.proofs.Clauses.{setting}
@@ -47,13 +47,13 @@ no_call_turns_the_mark_off doc stack r on =
 -- ---- a run
 
 -- where no answer turned the mark on none was Eof
-none_was_eof : (before : List Answer) → oneIs turns_on before ≡ false → oneIs isEof before ≡ false
-unfolding oneIs
+none_was_eof : (before : List Answer) → one_is turns_on before ≡ false → one_is is_eof before ≡ false
+unfolding one_is
 none_was_eof [] e = refl
-none_was_eof (a ∷ before) e = by (isEof a) _ (none_was_eof before) e
+none_was_eof (a ∷ before) e = by (is_eof a) _ (none_was_eof before) e
   where
-    by : (eof other : Bool) → (oneIs turns_on before ≡ false → oneIs isEof before ≡ false) → pick (pick eof true other) true (oneIs turns_on before) ≡ false
-        → pick eof true (oneIs isEof before) ≡ false
+    by : (eof other : Bool) → (one_is turns_on before ≡ false → one_is is_eof before ≡ false) → pick (pick eof true other) true (one_is turns_on before) ≡ false
+        → pick eof true (one_is is_eof before) ≡ false
     by true other further e = e
     by false other further e = further (pick_neither other _ e).1
 
@@ -69,8 +69,8 @@ module _ (doc stack : List ℕ) (c : Config) (short : length doc ≤ longest) wh
   answers n = (after n).answers
 
   -- THEOREM: the mark is on exactly where one of the answers so far was Eof, 18 or a refusal that ended the run
-  pub the_mark_is_what_the_answers_say : (n : ℕ) → (after n).reader.mark ≡ oneIs turns_on (answers n)
-  unfolding run call fresh oneIs
+  pub the_mark_is_what_the_answers_say : (n : ℕ) → (after n).reader.mark ≡ one_is turns_on (answers n)
+  unfolding run call fresh one_is
   the_mark_is_what_the_answers_say zero = refl
   the_mark_is_what_the_answers_say (suc n) =
       the_mark_after_a_call doc (after n).stack (after n).reader ∙ ap (pick (turns_on (answer n)) true) (the_mark_is_what_the_answers_say n)
@@ -80,7 +80,7 @@ module _ (doc stack : List ℕ) (c : Config) (short : length doc ≤ longest) wh
   unfolding run call
   marks_when_told n e = the_mark_after_a_call doc (after n).stack (after n).reader ∙ rw e refl
 
-  module _ (n : ℕ) (eighteen : isUnclosed (answer n) ≡ true) where
+  module _ (n : ℕ) (eighteen : is_unclosed (answer n) ≡ true) where
     number : (values_of (answer n)).number ≡ 18
     number = eqb-true (values_of (answer n)).number 18 eighteen
 
@@ -88,7 +88,7 @@ module _ (doc stack : List ℕ) (c : Config) (short : length doc ≤ longest) wh
     open_then = refuses_true (after n).reader ((turn doc stack c short n).finish.unclosed number).1
 
     -- THEOREM: 18 never comes after an Eof, another 18 or a refusal that ended the run
-    pub eighteen_comes_after_none_of_these : oneIs turns_on (answers n) ≡ false
+    pub eighteen_comes_after_none_of_these : one_is turns_on (answers n) ≡ false
     eighteen_comes_after_none_of_these = sym (the_mark_is_what_the_answers_say n) ∙ open_then.untold
 
     -- THEOREM: it comes only where it is asked for and a name is open
@@ -103,7 +103,7 @@ module _ (doc stack : List ℕ) (c : Config) (short : length doc ≤ longest) wh
     pub eighteen_stands_at_the_latest_open_name : (values_of (answer n)).place ≡ (newest (after n)).from
     eighteen_stands_at_the_latest_open_name = ((turn doc stack c short n).finish.unclosed number).2
 
-    no_other : (isStart (answer n) ≡ false) × (is_end (answer n) ≡ false) × (isMismatch (answer n) ≡ false)
+    no_other : (is_start (answer n) ≡ false) × (is_end (answer n) ≡ false) × (is_mismatch (answer n) ≡ false)
     no_other =
         let k = no_kind (answer n) (omega (arith, number)) in (
           ne_eqb (values_of (answer n)).kind (kind_number Kind.Start) (λ e. omega arith),
@@ -117,20 +117,20 @@ module _ (doc stack : List ℕ) (c : Config) (short : length doc ≤ longest) wh
         let o = no_other in (no_other_takes_a_name doc stack c short n o.0 o.1 o.2, only_a_start_writes doc stack c short n o.0)
 
     marks_then : (after (suc n)).reader.mark ≡ true
-    marks_then = marks_when_told n (pick_either (isEof (answer n)) _ (rw eighteen refl))
+    marks_then = marks_when_told n (pick_either (is_eof (answer n)) _ (rw eighteen refl))
 
     done_then : (after (suc n)).reader.phase ≡ Phase.Done
     unfolding run call
     done_then = ((turn doc stack c short n).finish.unclosed number).0
 
-    no_eof_so_far : oneIs isEof (answers (suc n)) ≡ false
-    unfolding run call oneIs
+    no_eof_so_far : one_is is_eof (answers (suc n)) ≡ false
+    unfolding run call one_is
     no_eof_so_far =
         rw (ne_eqb (values_of (answer n)).kind (kind_number Kind.Eof) (λ e. omega (arith, number, no_kind (answer n) (omega (arith, number)))))
         (none_was_eof (answers n) eighteen_comes_after_none_of_these)
 
     -- THEOREM: the next answer is Eof, and it is the first one
-    pub eof_comes_right_after_eighteen : (isEof (answer (suc n)) ≡ true) × (oneIs isEof (answers (suc n)) ≡ false)
+    pub eof_comes_right_after_eighteen : (is_eof (answer (suc n)) ≡ true) × (one_is is_eof (answers (suc n)) ≡ false)
     eof_comes_right_after_eighteen =
         (done_says doc stack c short (suc n) done_then (must_fail _ (λ e. clash _ marks_then (refuses_true (after (suc n)).reader e).untold)), no_eof_so_far)
 
@@ -145,37 +145,37 @@ module _ (doc stack : List ℕ) (c : Config) (short : length doc ≤ longest) wh
   marks_grow : (n : ℕ) → marks n ≤ marks (suc n)
   marks_grow n = pick_cases (λ (k : ℕ). k ≤ marks (suc n)) (after n).reader.mark 1 0 (λ m. rw (mark_stays n m) (omega arith)) (λ _. omega arith)
 
-  few : (n : ℕ) → count isUnclosed (answers n) ≤ marks n
+  few : (n : ℕ) → count is_unclosed (answers n) ≤ marks n
   unfolding run call count fresh
   few zero = omega arith
   few (suc n) =
-      pick_cases (λ (k : ℕ). k + count isUnclosed (answers n) ≤ marks (suc n)) (isUnclosed (answer n)) 1 0
+      pick_cases (λ (k : ℕ). k + count is_unclosed (answers n) ≤ marks (suc n)) (is_unclosed (answer n)) 1 0
       (λ e. let off : marks n ≡ 0 = rw (open_then n e).untold refl in
       let on : marks (suc n) ≡ 1 = rw (marks_then n e) refl in
       omega (arith, few n))
       (λ _. omega (arith, few n, marks_grow n))
 
   -- THEOREM: 18 comes once in a run, or not at all
-  pub eighteen_comes_once_at_most : (n : ℕ) → count isUnclosed (answers n) ≤ 1
+  pub eighteen_comes_once_at_most : (n : ℕ) → count is_unclosed (answers n) ≤ 1
   eighteen_comes_once_at_most n =
-      pick_cases (λ (k : ℕ). count isUnclosed (answers n) ≤ k → count isUnclosed (answers n) ≤ 1) (after n).reader.mark 1 0 (λ _ h. h) (λ _ h. omega arith)
+      pick_cases (λ (k : ℕ). count is_unclosed (answers n) ≤ k → count is_unclosed (answers n) ≤ 1) (after n).reader.mark 1 0 (λ _ h. h) (λ _ h. omega arith)
       (few n)
 
   -- THEOREM: it does not come where it is not asked for
-  pub no_eighteen_unasked : c.check_open_names ≡ false → (n : ℕ) → isUnclosed (answer n) ≡ false
-  no_eighteen_unasked off n = must_fail (isUnclosed (answer n)) (λ e. clash _ (eighteen_comes_only_where_it_is_asked_for n e) off)
+  pub no_eighteen_unasked : c.check_open_names ≡ false → (n : ℕ) → is_unclosed (answer n) ≡ false
+  no_eighteen_unasked off n = must_fail (is_unclosed (answer n)) (λ e. clash _ (eighteen_comes_only_where_it_is_asked_for n e) off)
 
   -- ---- a page that is whole
 
   -- where one turned the mark on, and none was 18 or ended the run, one was Eof
-  eof_is_left : (before : List Answer) → oneIs turns_on before ≡ true → oneIs isUnclosed before ≡ false → oneIs isEnding before ≡ false → oneIs isEof before ≡ true
-  unfolding oneIs
+  eof_is_left : (before : List Answer) → one_is turns_on before ≡ true → one_is is_unclosed before ≡ false → one_is is_ending before ≡ false → one_is is_eof before ≡ true
+  unfolding one_is
   eof_is_left [] e u s = e
-  eof_is_left (a ∷ before) e u s = by (isEof a) (isUnclosed a) (isEnding a) (eof_is_left before) e u s
+  eof_is_left (a ∷ before) e u s = by (is_eof a) (is_unclosed a) (is_ending a) (eof_is_left before) e u s
     where
-      by : (eof unclosed ending : Bool) → (oneIs turns_on before ≡ true → oneIs isUnclosed before ≡ false → oneIs isEnding before ≡ false → oneIs isEof before ≡ true)
-          → pick (pick eof true (pick unclosed true ending)) true (oneIs turns_on before) ≡ true
-          → pick unclosed true (oneIs isUnclosed before) ≡ false → pick ending true (oneIs isEnding before) ≡ false → pick eof true (oneIs isEof before) ≡ true
+      by : (eof unclosed ending : Bool) → (one_is turns_on before ≡ true → one_is is_unclosed before ≡ false → one_is is_ending before ≡ false → one_is is_eof before ≡ true)
+          → pick (pick eof true (pick unclosed true ending)) true (one_is turns_on before) ≡ true
+          → pick unclosed true (one_is is_unclosed before) ≡ false → pick ending true (one_is is_ending before) ≡ false → pick eof true (one_is is_eof before) ≡ true
       by true unclosed ending further e u s = refl
       by false true ending further e u s = clash true refl u
       by false false true further e u s = clash true refl s
@@ -183,7 +183,7 @@ module _ (doc stack : List ℕ) (c : Config) (short : length doc ≤ longest) wh
 
   module _ (asked : c.check_open_names ≡ true) where
     -- what Eof is answered with: nothing open, or the end was told before
-    eof_with : (n : ℕ) → isEof (answer n) ≡ true → (after n).reader.mark ≡ false → (after n).reader.depth.0 ≡ 0
+    eof_with : (n : ℕ) → is_eof (answer n) ≡ true → (after n).reader.mark ≡ false → (after n).reader.depth.0 ≡ 0
     eof_with n e off = by (after n).reader.depth.0 refl
       where
         by : (d : ℕ) → (after n).reader.depth.0 ≡ d → d ≡ 0
@@ -194,7 +194,7 @@ module _ (doc stack : List ℕ) (c : Config) (short : length doc ≤ longest) wh
             ((turn doc stack c short n).finish.over (eqb-true (values_of (answer n)).kind (kind_number Kind.Eof) e)).1
 
     -- an Eof keeps the names
-    eof_keeps : (n : ℕ) → isEof (answer n) ≡ true → (after n).reader.depth.0 ≡ 0 → (after (suc n)).reader.depth.0 ≡ 0
+    eof_keeps : (n : ℕ) → is_eof (answer n) ≡ true → (after n).reader.depth.0 ≡ 0 → (after (suc n)).reader.depth.0 ≡ 0
     eof_keeps n e z =
         let k = eqb-true (values_of (answer n)).kind (kind_number Kind.Eof) e in
         let m = no_number (answer n) (omega (arith, k)) in
@@ -205,18 +205,18 @@ module _ (doc stack : List ℕ) (c : Config) (short : length doc ≤ longest) wh
         (ne_eqb (values_of (answer n)).number 10 (λ e. omega (arith, m))) in
         sym (entries_length (after (suc n)).stack (after (suc n)).reader.depth.0) ∙ ap length same ∙ entries_length (after n).stack (after n).reader.depth.0 ∙ z
 
-    none_open : (n : ℕ) → oneIs isEof (answers n) ≡ true → oneIs isUnclosed (answers n) ≡ false → oneIs isEnding (answers n) ≡ false → (after n).reader.depth.0 ≡ 0
-    unfolding run call oneIs
+    none_open : (n : ℕ) → one_is is_eof (answers n) ≡ true → one_is is_unclosed (answers n) ≡ false → one_is is_ending (answers n) ≡ false → (after n).reader.depth.0 ≡ 0
+    unfolding run call one_is
     none_open zero e u s = clash false e refl
     none_open (suc n) e u s =
-        let v = (pick_neither (isUnclosed (answer n)) _ u).1 in
-        let t = (pick_neither (isEnding (answer n)) _ s).1 in
-        pick_cases (λ (b : Bool). b ≡ true → (after (suc n)).reader.depth.0 ≡ 0) (isEof (answer n)) true (oneIs isEof (answers n))
+        let v = (pick_neither (is_unclosed (answer n)) _ u).1 in
+        let t = (pick_neither (is_ending (answer n)) _ s).1 in
+        pick_cases (λ (b : Bool). b ≡ true → (after (suc n)).reader.depth.0 ≡ 0) (is_eof (answer n)) true (one_is is_eof (answers n))
         (λ f _. eof_keeps n f (at_eof (after n).reader.mark refl f (λ h. none_open n (eof_is_left (answers n) h v t) v t)))
         (λ _ f. let d = after_eof doc stack c short n f in ap (λ (r : Reader). r.depth.0) (rest_reader doc stack c short n d.0 d.1) ∙ none_open n f v t)
         e
       where
-        at_eof : (b : Bool) → (after n).reader.mark ≡ b → isEof (answer n) ≡ true → (oneIs turns_on (answers n) ≡ true → (after n).reader.depth.0 ≡ 0)
+        at_eof : (b : Bool) → (after n).reader.mark ≡ b → is_eof (answer n) ≡ true → (one_is turns_on (answers n) ≡ true → (after n).reader.depth.0 ≡ 0)
             → (after n).reader.depth.0 ≡ 0
         at_eof false m f told = eof_with n f m
         at_eof true m f told = told (sym (the_mark_is_what_the_answers_say n) ∙ m)
@@ -224,8 +224,8 @@ module _ (doc stack : List ℕ) (c : Config) (short : length doc ≤ longest) wh
     -- THEOREM: open names checked: a page that ends with Eof, and with neither 18 nor a refusal that ended the run, is whole: no name is open, and, where unmatched
     -- ends are refused, Starts = Ends + mismatches
     pub a_page_that_ends_with_eof_and_no_refusal_is_whole : (n : ℕ)
-        → oneIs isEof (answers n) ≡ true → oneIs isUnclosed (answers n) ≡ false → oneIs isEnding (answers n) ≡ false
-        → (opened (after n) ≡ []) × (c.allow_unmatched_ends ≡ false → count isStart (answers n) ≡ count is_end (answers n) + count isMismatch (answers n))
+        → one_is is_eof (answers n) ≡ true → one_is is_unclosed (answers n) ≡ false → one_is is_ending (answers n) ≡ false
+        → (opened (after n) ≡ []) × (c.allow_unmatched_ends ≡ false → count is_start (answers n) ≡ count is_end (answers n) + count is_mismatch (answers n))
     unfolding entries
     a_page_that_ends_with_eof_and_no_refusal_is_whole n e u s =
         let z = none_open n e u s in

@@ -13,45 +13,45 @@ AnEvent a = (1 ≤ (values_of a).kind) × ((values_of a).kind ≤ 10) × ((value
 abbrev pub ARefusal : Answer → Type 0
 ARefusal a = ((values_of a).kind ≡ 0) × (1 ≤ (values_of a).number) × ((values_of a).number ≤ 18) × ((values_of a).number ≡ 16 → ⊥)
 
-abbrev pub isStart : Answer → Bool
-isStart a = eqb (values_of a).kind (kind_number Kind.Start)
+abbrev pub is_start : Answer → Bool
+is_start a = eqb (values_of a).kind (kind_number Kind.Start)
 
 abbrev pub is_end : Answer → Bool
 is_end a = eqb (values_of a).kind (kind_number Kind.End)
 
-abbrev pub isEof : Answer → Bool
-isEof a = eqb (values_of a).kind (kind_number Kind.Eof)
+abbrev pub is_eof : Answer → Bool
+is_eof a = eqb (values_of a).kind (kind_number Kind.Eof)
 
-abbrev pub isComment : Answer → Bool
-isComment a = eqb (values_of a).kind (kind_number Kind.Comment)
+abbrev pub is_comment : Answer → Bool
+is_comment a = eqb (values_of a).kind (kind_number Kind.Comment)
 
 -- 9: "DoubleHyphenInComment"
-abbrev pub isDoubleHyphen : Answer → Bool
-isDoubleHyphen a = eqb (values_of a).number 9
+abbrev pub is_double_hyphen : Answer → Bool
+is_double_hyphen a = eqb (values_of a).number 9
 
 -- 10: "MismatchedEndTag"
-abbrev pub isMismatch : Answer → Bool
-isMismatch a = eqb (values_of a).number 10
+abbrev pub is_mismatch : Answer → Bool
+is_mismatch a = eqb (values_of a).number 10
 
 -- 11: "UnmatchedEndTag"
-abbrev pub isUnmatched : Answer → Bool
-isUnmatched a = eqb (values_of a).number 11
+abbrev pub is_unmatched : Answer → Bool
+is_unmatched a = eqb (values_of a).number 11
 
 -- 13: "piece not UTF-8"
-abbrev pub isEncoding : Answer → Bool
-isEncoding a = eqb (values_of a).number 13
+abbrev pub is_encoding : Answer → Bool
+is_encoding a = eqb (values_of a).number 13
 
 -- 17: "bad state"
-abbrev pub isBadState : Answer → Bool
-isBadState a = eqb (values_of a).number 17
+abbrev pub is_bad_state : Answer → Bool
+is_bad_state a = eqb (values_of a).number 17
 
 -- 18: the document ends with names open
-abbrev pub isUnclosed : Answer → Bool
-isUnclosed a = eqb (values_of a).number 18
+abbrev pub is_unclosed : Answer → Bool
+is_unclosed a = eqb (values_of a).number 18
 
 -- "a refusal that ended the run (1 to 8, 13 to 15)"
-abbrev pub isEnding : Answer → Bool
-isEnding a = ends_run (values_of a).number
+abbrev pub is_ending : Answer → Bool
+is_ending a = ends_run (values_of a).number
 
 -- how many of some answers, or of whatever else tells them
 unfoldable pub count : {A : Type 0} → (A → Bool) → List A → ℕ
@@ -59,11 +59,11 @@ count is [] = 0
 count is (a ∷ before) = pick (is a) 1 0 + count is before
 
 -- the latest of them, which stands first, is such a one
-abbrev pub latestIs : {A : Type 0} → (A → Bool) → List A → Bool
-latestIs is [] = false
-latestIs is (a ∷ before) = is a
+abbrev pub latest_is : {A : Type 0} → (A → Bool) → List A → Bool
+latest_is is [] = false
+latest_is is (a ∷ before) = is a
 
 -- one of them is such a one
-unfoldable pub oneIs : {A : Type 0} → (A → Bool) → List A → Bool
-oneIs is [] = false
-oneIs is (a ∷ before) = pick (is a) true (oneIs is before)
+unfoldable pub one_is : {A : Type 0} → (A → Bool) → List A → Bool
+one_is is [] = false
+one_is is (a ∷ before) = pick (is a) true (one_is is before)

@@ -5,7 +5,7 @@ use Rattle.state.specs.declared.place.Span.{Span}
 use Rattle.state.specs.declared.answer.Answer.{Answer}
 use Rattle.reader.specs.Names.{entry, latest, name_of}
 use Rattle.demands.specs.Run.{World}
-use Rattle.demands.specs.Answers.{isStart, is_end, isMismatch}
+use Rattle.demands.specs.Answers.{is_start, is_end, is_mismatch}
 
 -- the d names that a stack holds, the latest first
 unfoldable pub entries : List ℕ → ℕ → List Span
@@ -29,11 +29,11 @@ rest (name ∷ others) = others
 unfoldable pub left_open : List Answer → List Span
 left_open [] = []
 left_open (a ∷ before) =
-    pick (isStart a)
+    pick (is_start a)
     (name_of a ∷ left_open before)
     (pick (is_end a)
     (rest (left_open before))
-    (pick (isMismatch a) (rest (left_open before)) (left_open before)))
+    (pick (is_mismatch a) (rest (left_open before)) (left_open before)))
 
 -- how many of the Ends came with nothing open
 unfoldable pub strays : List Answer → ℕ

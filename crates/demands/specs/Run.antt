@@ -6,7 +6,7 @@ use Rattle.state.specs.declared.run.Reader.{Reader}
 use Rattle.state.specs.Make.{fresh}
 use Rattle.reader.specs.Names.{written}
 use Rattle.reader.specs.Step.{step}
-use Rattle.demands.specs.Answers.{isEof}
+use Rattle.demands.specs.Answers.{is_eof}
 
 -- what stands between two calls: the reader, the stack, and the answers so far, the latest first
 pub record World : Type 0 where
@@ -34,6 +34,6 @@ run doc stack c (suc n) = call doc (run doc stack c n)
 
 -- a later state: Eof is what is said, and reader and stack are as they were
 pub record AtRest (doc : List ℕ) (w later : World) : Type 0 where
-  pub says : isEof (said doc later) ≡ true
+  pub says : is_eof (said doc later) ≡ true
   pub reader : later.reader ≡ w.reader
   pub stack : later.stack ≡ w.stack

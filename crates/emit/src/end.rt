@@ -1,6 +1,6 @@
 // Closing tags, and the ends of expanded empty elements.
 ghost use Rattle.std.specs.Prelude.{◌≡◌};
-ghost use Rattle.emit.specs.End.{closing_name, differs as differsOf, end_event, unmatched as unmatchedOf, matched as matchedOf, emit_end, close_expanded_empty};
+ghost use Rattle.emit.specs.End.{closing_name, differs as differs_of, end_event, unmatched as unmatched_of, matched as matched_of, emit_end, close_expanded_empty};
 
 use ground::{part, same};
 use state::answer::{Error, Event, Kind};
@@ -61,7 +61,7 @@ fn end(reader: Reader, piece: Span, name: Span) -> Step
 
 // Where no name is open.
 fn unmatched(reader: Reader, piece: Span, name: Span) -> Step
-    ensures { result ≡ unmatchedOf reader piece name }
+    ensures { result ≡ unmatched_of reader piece name }
 {
     if reader.settings.allow_unmatched_ends {
         end(reader, piece, name)
@@ -77,7 +77,7 @@ fn unmatched(reader: Reader, piece: Span, name: Span) -> Step
 
 // Where `last` was open, and is taken away.
 fn matched(reader: Reader, document: &[u8], last: Span, piece: Span, name: Span) -> Step
-    ensures { result ≡ matchedOf document.now reader last piece name }
+    ensures { result ≡ matched_of document.now reader last piece name }
 {
     let settings = reader.settings;
     if differs(document, settings, last, name) {
@@ -97,7 +97,7 @@ fn matched(reader: Reader, document: &[u8], last: Span, piece: Span, name: Span)
 
 // Whether names are checked and the two have other bytes.
 fn differs(document: &[u8], settings: Config, last: Span, name: Span) -> bool
-    ensures { result ≡ differsOf document.now settings last name }
+    ensures { result ≡ differs_of document.now settings last name }
 {
     if settings.check_end_names {
         !same(

@@ -1,6 +1,6 @@
 // Opening tags and empty elements.
 ghost use Rattle.std.specs.Prelude.{◌≡◌};
-ghost use Rattle.emit.specs.Start.{slashed as slashedOf, tag as tag_of, opening as opening_of, emit_start};
+ghost use Rattle.emit.specs.Start.{slashed as slashed_of, tag as tag_of, opening as opening_of, emit_start};
 
 use ground::byte_at;
 use state::answer::{Error, Event, Kind};
@@ -30,7 +30,7 @@ pub fn emit_start(reader: Reader, document: &[u8], capacity: Depth, piece: Span)
 
 // Whether the piece ends in `/>`.
 fn slashed(document: &[u8], piece: Span) -> bool
-    ensures { result ≡ slashedOf document.now piece }
+    ensures { result ≡ slashed_of document.now piece }
 {
     let content = piece.inner(1, 1);
     if content.from < content.to {

@@ -264,20 +264,20 @@ pub ruleset texts = (rules, measured_whole, measured_refused)
 -- ---- one reference
 
 module _ (content g : List ℕ) (at : ℕ) (c : Reference) (q : c ≡ reference_of content) where
-  one_is : (k : Reference) → c ≡ k → (r : Written) (g' : List ℕ) (t : Text) → character_of (length g) at 0 k ≡ t → r ≡ written_of t → g' ≡ left_of g at t → Put (one_text content (length g) at) g at r g'
-  one_is k x r g' t y z w =
+  one_is_lem : (k : Reference) → c ≡ k → (r : Written) (g' : List ℕ) (t : Text) → character_of (length g) at 0 k ≡ t → r ≡ written_of t → g' ≡ left_of g at t → Put (one_text content (length g) at) g at r g'
+  one_is_lem k x r g' t y z w =
       let e : one_text content (length g) at ≡ t = ap (character_of (length g) at 0) (sym q ∙ x) ∙ y in
       record { told = z ∙ ap written_of (sym e); bytes = w ∙ ap (left_of g at) (sym e) }
 
   pub one_not_of_form : c ≡ Reference.NotOfForm → (r : Written) → r ≡ refused Fault.NotOfForm 0 → Put (one_text content (length g) at) g at r g
-  one_not_of_form x r z = one_is Reference.NotOfForm x r g (not_written Fault.NotOfForm 0) refl z refl
+  one_not_of_form x r z = one_is_lem Reference.NotOfForm x r g (not_written Fault.NotOfForm 0) refl z refl
 
   pub one_no_character : c ≡ Reference.NoCharacter → (r : Written) → r ≡ refused Fault.NoCharacter 0 → Put (one_text content (length g) at) g at r g
-  one_no_character x r z = one_is Reference.NoCharacter x r g (not_written Fault.NoCharacter 0) refl z refl
+  one_no_character x r z = one_is_lem Reference.NoCharacter x r g (not_written Fault.NoCharacter 0) refl z refl
 
   module _ (v : ℕ) (x : c ≡ Reference.Character v) where
     pub one_past : length g < at → (r : Written) → r ≡ refused Fault.NoRoom 0 → Put (one_text content (length g) at) g at r g
-    one_past l r z = one_is (Reference.Character v) x r g (not_written Fault.NoRoom 0) (fitting_out (length g) at (octets v) 0 (omega arith)) z refl
+    one_past l r z = one_is_lem (Reference.Character v) x r g (not_written Fault.NoRoom 0) (fitting_out (length g) at (octets v) 0 (omega arith)) z refl
 
     module _ (l : at ≤ length g) (n : ℕ) (ys : List ℕ) (y : Encoded v (mid_of at (length g - at) g) n ys) where
       scalar : is_scalar v ≡ true
@@ -294,14 +294,14 @@ module _ (content g : List ℕ) (at : ℕ) (c : Reference) (q : c ≡ reference_
       pub one_no_room : n ≡ 0 → (r : Written) → r ≡ refused Fault.NoRoom 0 → Put (one_text content (length g) at) g at r (put_mid at (length g - at) g ys)
       one_no_room s r z =
           let h = one_full (dec_lt _ _) s in
-          one_is (Reference.Character v) x r (put_mid at (length g - at) g ys) (not_written Fault.NoRoom 0) (fitting_out (length g) at (octets v) 0 (omega (arith, lent_length g at))) z
+          one_is_lem (Reference.Character v) x r (put_mid at (length g - at) g ys) (not_written Fault.NoRoom 0) (fitting_out (length g) at (octets v) 0 (omega (arith, lent_length g at))) z
           (back_same g at ys (encoded_nowhere v (mid_of at (length g - at) g) n ys scalar y h).1)
 
       pub one_written : (n ≡ 0 → ⊥) → Put (one_text content (length g) at) g at (Written.Bytes n) (put_mid at (length g - at) g ys)
       one_written s =
           let h = one_fits (dec_lt _ _) s in
           let w = encoded_there v (mid_of at (length g - at) g) n ys scalar y h in
-          one_is (Reference.Character v) x (Written.Bytes n) (put_mid at (length g - at) g ys) (Text.Whole (octets v)) (fitting_in (length g) at (octets v) 0 (omega (arith, lent_length g at)))
+          one_is_lem (Reference.Character v) x (Written.Bytes n) (put_mid at (length g - at) g ys) (Text.Whole (octets v)) (fitting_in (length g) at (octets v) 0 (omega (arith, lent_length g at)))
           (ap Written.Bytes w.0)
           (back_over g at (octets v) ys w.1)
 

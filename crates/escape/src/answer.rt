@@ -1,6 +1,6 @@
 // What a call answers: how many bytes it wrote, or a refusal with its place.
 ghost use Rattle.std.specs.Prelude.{◌≡◌};
-ghost use Rattle.escape.specs.Answers.{faultNumber, refused as refusedOf, refusal_values, values_of};
+ghost use Rattle.escape.specs.Answers.{fault_number, refused as refused_of, refusal_values, values_of};
 
 #[derive(Clone, Copy)]
 pub enum Fault {
@@ -37,7 +37,7 @@ pub struct Values {
 
 impl Fault {
     pub fn number(self) -> usize
-        ensures { result ≡ faultNumber self }
+        ensures { result ≡ fault_number self }
     {
         match self {
             Fault::NotOfForm => 25,
@@ -76,7 +76,7 @@ impl Written {
 }
 
 pub fn refused(fault: Fault, place: usize) -> Written
-    ensures { result ≡ refusedOf fault place }
+    ensures { result ≡ refused_of fault place }
 {
     Written::Refused(Refusal { fault, place })
 }

@@ -1,7 +1,7 @@
 // What a reference names (XML 1.0, section 4.6 and production 66).
 ghost use Rattle.std.specs.Prelude.{◌≡◌, ◌+◌, ◌*◌, ◌≤◌, ◌<◌, drop, ltb};
 ghost use Rattle.ground.specs.Choose.{pick};
-ghost use Rattle.escape.specs.Reference.{digit as digitOf, number_of, char_of, reference_of};
+ghost use Rattle.escape.specs.Reference.{digit as digit_of, number_of, char_of, reference_of};
 ghost use Rattle.escape.specs.Inside.{past};
 
 use crate::scalar::is_char;
@@ -91,7 +91,7 @@ fn character(value: u32) -> Reference
 
 // The value of a digit; 16 for any other byte.
 fn digit_of(b: u8) -> u32
-    ensures { result ≡ digitOf b }
+    ensures { result ≡ digit_of b }
 {
     match b {
         b'0'..=b'9' => (b - b'0') as u32,

@@ -1,6 +1,6 @@
 // A character by its number: XML's characters (XML 1.0, production 2), and the UTF-8 bytes of a scalar value (RFC 3629, section 3).
 ghost use Rattle.std.specs.Prelude.{◌≡◌, ◌+◌, ◌/◌, ◌%◌, ◌≤◌, ◌<◌, true, ◌++◌, length, drop};
-ghost use Rattle.escape.specs.Scalar.{is_char, is_scalar, tail as tailOf, octets, Encoded};
+ghost use Rattle.escape.specs.Scalar.{is_char, is_scalar, tail as tail_of, octets, Encoded};
 
 // Whether the number is that of an XML character.
 pub fn is_char(value: u32) -> bool
@@ -86,7 +86,7 @@ fn put(value: u32, out: &mut [u8])
 // A byte behind the first: six bits of the value.
 fn tail(value: u32, by: u32) -> u8
     requires { 0 < by }
-    ensures { result ≡ tailOf by value }
+    ensures { result ≡ tail_of by value }
 {
     0x80 + (value / by % 0x40) as u8
 }

@@ -1,7 +1,7 @@
 // The call that feeds a scan the next bytes.
 ghost use Rattle.std.specs.Prelude.{◌≡◌, ◌+◌, ◌≤◌, length};
 ghost use Rattle.state.specs.Limits.{longest};
-ghost use Rattle.pieces.specs.Fed.{fed, fed_on, refused as refusedOf};
+ghost use Rattle.pieces.specs.Fed.{fed, fed_on, refused as refused_of};
 
 use crate::ahead::{Ahead, onward};
 use crate::reached::reached;
@@ -61,7 +61,7 @@ fn go_on(taken: usize, state: State, piece: &[u8]) -> Fed
 
 // A refusal, which leaves the scan as it is.
 fn refused(scan: Scan, error: Error) -> Fed
-    ensures { result ≡ refusedOf scan error }
+    ensures { result ≡ refused_of scan error }
 {
     Fed {
         scan,

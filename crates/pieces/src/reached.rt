@@ -1,6 +1,6 @@
 // Which scans feeding leads to.
 ghost use Rattle.std.specs.Prelude.{◌≡◌};
-ghost use Rattle.pieces.specs.Reached.{reached as reachedOf, quotes_reached, marks_reached};
+ghost use Rattle.pieces.specs.Reached.{reached as reached_of, quotes_reached, marks_reached};
 
 use crate::scan::{Kind, State};
 use parser::element::ElementState;
@@ -9,7 +9,7 @@ use state::limits::LONGEST;
 
 // Whether a scan that was fed `taken` bytes may be in this state.
 pub fn reached(taken: usize, state: State) -> bool
-    ensures { result ≡ reachedOf taken state }
+    ensures { result ≡ reached_of taken state }
 {
     if taken <= LONGEST {
         match state {

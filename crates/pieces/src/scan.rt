@@ -1,7 +1,7 @@
 // Where a scan stands between two parts of the bytes, and what a call tells.
 ghost use Rattle.std.specs.Prelude.{◌≡◌};
 ghost use Rattle.pieces.specs.Kinds.{opener_of, mark_of, need_of};
-ghost use Rattle.pieces.specs.Fed.{told_number, begins as beginsOf, fresh as fresh_of};
+ghost use Rattle.pieces.specs.Fed.{told_number, begins as begins_of, fresh as fresh_of};
 
 use parser::element::ElementState;
 use parser::marks::Marks;
@@ -125,7 +125,7 @@ pub fn fresh(what: What) -> Scan
 
 // What it is in.
 fn begins(what: What) -> State
-    ensures { result ≡ beginsOf what }
+    ensures { result ≡ begins_of what }
 {
     match what {
         What::Piece => State::Start,

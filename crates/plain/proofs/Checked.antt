@@ -23,7 +23,7 @@ use Rattle.state.specs.Make.{stopped}
 use Rattle.state.specs.Place.{at, span, inner}
 use Rattle.state.proofs.Spans.{fits}
 use Rattle.reader.specs.declared.piece.Shape.{Shape}
-use Rattle.reader.specs.Cut.{whole, stop as stopCut, cut_next}
+use Rattle.reader.specs.Cut.{whole, stop as stop_of_cut, cut_next}
 use Rattle.reader.specs.Step.{emitted_as, emitted, checked, taken}
 use Rattle.plain.specs.declared.known.Part.{Part}
 use Rattle.plain.specs.declared.known.Known.{Known}
@@ -40,14 +40,14 @@ inner_to from to front back end h e =
 module _ (doc : List ℕ) (r : Reader) (open_name : Span) (room : Depth) where
   -- ---- a refusal
 
-  pub stop_is : (error : Error) (from to : ℕ) → cut_next doc from ≡ stopCut error from to
+  pub stop_is : (error : Error) (from to : ℕ) → cut_next doc from ≡ stop_of_cut error from to
       → stop r error (span from to) ≡ taken doc r open_name room (cut_next doc from)
-  unfolding taken stopCut stop
+  unfolding taken stop_of_cut stop
   stop_is error from to e = sym (ap (taken doc r open_name room) e)
 
   -- a piece that has no closer, by what it is
   pub open_is : (k : Known) (p : Part) (error : Error) → k.at ≡ length doc → k.part ≡ p → closer k p ≡ error
-      → cut_next doc k.from ≡ stopCut error k.from (length doc)
+      → cut_next doc k.from ≡ stop_of_cut error k.from (length doc)
       → stop r (no_closer k) (read r k open_name room) ≡ taken doc r open_name room (cut_next doc k.from)
   unfolding no_closer
   open_is k p error z e f c =

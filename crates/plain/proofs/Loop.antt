@@ -12,7 +12,7 @@ use borrow.Author.Rules.{rules}
 use borrow.Author.Tests.{eq-eqb, eqb-true, eqb-false}
 use Rattle.ground.specs.Choose.{pick}
 use Rattle.ground.specs.Bytes.{amp, lt}
-use Rattle.ground.specs.Equal.{begins as beginsWith}
+use Rattle.ground.specs.Equal.{begins as begins_by}
 use Rattle.ground.specs.Part.{part}
 use Rattle.ground.proofs.Choices.{clash, pick_cases, or_left, or_right}
 use Rattle.ground.proofs.Equal.{compare_end, compare_past, compare_other, compare_turn}
@@ -77,11 +77,11 @@ module _ (doc : List ℕ) (c : Config) (from : ℕ) where
 
 -- ---- where the document begins
 
-begin_three : (doc : List ℕ) → beginsWith doc bom ≡ true → begin doc ≡ 3
+begin_three : (doc : List ℕ) → begins_by doc bom ≡ true → begin doc ≡ 3
 unfolding begin
 begin_three doc e = rw e
 
-begin_none : (doc : List ℕ) → beginsWith doc bom ≡ false → begin doc ≡ 0
+begin_none : (doc : List ℕ) → begins_by doc bom ≡ false → begin doc ≡ 0
 unfolding begin
 begin_none doc e = rw e
 
@@ -99,7 +99,7 @@ pub record Marking (doc : List ℕ) (mark : Bool) (origin : ℕ) (k : Known) : T
   pub asked : mark ≡ true
   pub start : origin ≡ 0
   pub few : k.at < 3
-  pub rest : beginsWith doc bom ≡ beginsWith (drop k.at doc) (drop k.at bom)
+  pub rest : begins_by doc bom ≡ begins_by (drop k.at doc) (drop k.at bom)
   pub is : ((k.part ≡ Part.Nothing) × (k.at ≡ 0)) ⊎ (k.part ≡ Part.Text)
 
 -- where reading starts by the definition
@@ -118,7 +118,7 @@ pub record Going (doc : List ℕ) (r : Reader) (open_name : Span) (mark : Bool) 
 
 module _ (doc : List ℕ) (r : Reader) (open_name : Span) (mark : Bool) (ok : Readable doc r open_name mark) where
   -- a mark that does not go on was none
-  start_none : (k : Known) (g : Going doc r open_name mark k) → (k.mark ≡ true → beginsWith doc bom ≡ false) → starts_at doc r mark ≡ g.origin
+  start_none : (k : Known) (g : Going doc r open_name mark k) → (k.mark ≡ true → begins_by doc bom ≡ false) → starts_at doc r mark ≡ g.origin
   start_none k g no-mark = by k.mark refl
     where
       by : (x : Bool) → k.mark ≡ x → starts_at doc r mark ≡ g.origin
@@ -144,7 +144,7 @@ module _ (doc : List ℕ) (r : Reader) (open_name : Span) (mark : Bool) (ok : Re
           asked = e;
           start = ok.first e;
           few = omega (arith, ok.first e);
-          rest = ap (λ (i : ℕ). beginsWith (drop i doc) (drop i bom)) (sym (ok.first e));
+          rest = ap (λ (i : ℕ). begins_by (drop i doc) (drop i bom)) (sym (ok.first e));
           is = inl (refl, ok.first e);
         };
         settled = λ e. ap (λ (x : Bool). pick x (begin doc) r.position.0) e;
@@ -170,10 +170,10 @@ module _ (doc : List ℕ) (r : Reader) (open_name : Span) (mark : Bool) (ok : Re
     skips = (eqb (size_of k) 0 && trims) && is_white b
 
     -- the byte is not the next of a byte order mark
-    mark_ends : marks k b ≡ false → k.mark ≡ true → beginsWith doc bom ≡ false
+    mark_ends : marks k b ≡ false → k.mark ≡ true → begins_by doc bom ≡ false
     mark_ends e f =
         let m = g.marking f in
-        sym (compare_other (beginsWith doc bom) doc bom k.at k.at m.rest m.few l
+        sym (compare_other (begins_by doc bom) doc bom k.at k.at m.rest m.few l
         (λ q. clash (eqb (get_or bom k.at 0) b) (eq-eqb (get_or bom k.at 0) b (sym q)) (ap (λ (x : Bool). x && eqb (get_or bom k.at 0) b) (sym f) ∙ e)))
 
     -- or it is
@@ -184,14 +184,14 @@ module _ (doc : List ℕ) (r : Reader) (open_name : Span) (mark : Bool) (ok : Re
       mark_byte : b ≡ get_or bom k.at 0
       mark_byte = sym (eqb-true (get_or bom k.at 0) b (and_right k.mark (eqb (get_or bom k.at 0) b) e))
 
-      mark_rest : beginsWith doc bom ≡ beginsWith (drop (k.at + 1) doc) (drop (k.at + 1) bom)
-      mark_rest = compare_turn (beginsWith doc bom) doc bom k.at k.at marking_so.rest marking_so.few l mark_byte
+      mark_rest : begins_by doc bom ≡ begins_by (drop (k.at + 1) doc) (drop (k.at + 1) bom)
+      mark_rest = compare_turn (begins_by doc bom) doc bom k.at k.at marking_so.rest marking_so.few l mark_byte
 
     -- behind a byte order mark
     after_mark : marks k b ≡ true → eqb k.at 2 ≡ true → starts_at doc r mark ≡ k.at + 1
     after_mark e f =
         let two = eqb-true k.at 2 f in
-        let all = compare_end (beginsWith doc bom) doc bom (k.at + 1) (k.at + 1) (mark_rest e) (omega arith) in
+        let all = compare_end (begins_by doc bom) doc bom (k.at + 1) (k.at + 1) (mark_rest e) (omega arith) in
         ap (λ (x : Bool). pick x (begin doc) r.position.0) (marking_so e).asked ∙ begin_three doc (sym all) ∙ omega arith
 
     -- a piece may begin behind the byte
@@ -317,11 +317,11 @@ module _ (doc : List ℕ) (r : Reader) (open_name : Span) (mark : Bool) (ok : Re
       text_byte : (p : Part) → p ≡ Part.Text → ends_in k (get_or doc k.at 0) p ≡ true → (eqb (get_or doc k.at 0) lt || eqb (get_or doc k.at 0) amp) ≡ true
       text_byte p e f = ap (ends_in k (get_or doc k.at 0)) (sym e) ∙ f
 
-      unmarked : ends_in k (get_or doc k.at 0) k.part ≡ true → k.mark ≡ true → beginsWith doc bom ≡ false
+      unmarked : ends_in k (get_or doc k.at 0) k.part ≡ true → k.mark ≡ true → begins_by doc bom ≡ false
       unmarked f e =
           let m = g.marking e in
           ⊎_elim (λ u. clash false (ap (ends_in k (get_or doc k.at 0)) (sym u.0) ∙ f) refl)
-          (λ u. sym (compare_other (beginsWith doc bom) doc bom k.at k.at m.rest m.few l (bom_goes k.at (get_or doc k.at 0) m.few (text_byte k.part u f))))
+          (λ u. sym (compare_other (begins_by doc bom) doc bom k.at k.at m.rest m.few l (bom_goes k.at (get_or doc k.at 0) m.few (text_byte k.part u f))))
           m.is
 
       pub going_closed : (ends : Bool) → ends ≡ ends_of k (get_or doc k.at 0) → ends ≡ true → x ≡ closed_of r k open_name room (get_or doc k.at 0) → x ≡ read_from doc r open_name room mark
@@ -354,8 +354,8 @@ module _ (doc : List ℕ) (r : Reader) (open_name : Span) (mark : Bool) (ok : Re
             | no h ↦ skip_end doc r.settings k.from (omega (arith, g.tracks.low))
           ]
 
-      open_unmarked : k.mark ≡ true → beginsWith doc bom ≡ false
-      open_unmarked e = let m = g.marking e in sym (compare_past (beginsWith doc bom) doc bom k.at k.at m.rest m.few l)
+      open_unmarked : k.mark ≡ true → begins_by doc bom ≡ false
+      open_unmarked e = let m = g.marking e in sym (compare_past (begins_by doc bom) doc bom k.at k.at m.rest m.few l)
 
       pub going_open : x ≡ unclosed_of r k open_name room → x ≡ read_from doc r open_name room mark
       unfolding unclosed_of

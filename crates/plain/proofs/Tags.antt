@@ -15,7 +15,7 @@ use Rattle.ground.specs.Part.{part}
 use Rattle.ground.specs.Equal.{same}
 use Rattle.ground.proofs.Choices.{clash}
 use Rattle.ground.proofs.Lists.{stands_in}
-use Rattle.white.specs.White.{is_white, kept, name_len as whiteLen}
+use Rattle.white.specs.White.{is_white, kept, name_len as white_len}
 use Rattle.parser.specs.Machine.{go, scan_at}
 use Rattle.parser.specs.Element.{element_step, element_answer, element_found, quote_of, IsQuote}
 use Rattle.parser.specs.declared.element.ElementState.{ElementState}
@@ -35,7 +35,7 @@ use Rattle.state.specs.Make.{with_depth, event, told, refused}
 use Rattle.emit.specs.End.{closing_name, end_event, unmatched, differs, matched, emit_end}
 use Rattle.emit.specs.Start.{slashed as ends_slashed, tag, opening, emit_start}
 use Rattle.reader.specs.declared.piece.Shape.{Shape}
-use Rattle.reader.specs.Cut.{unclosed_tag, cut_tag, cut_next, stop as stopCut}
+use Rattle.reader.specs.Cut.{unclosed_tag, cut_tag, cut_next, stop as stop_of_cut}
 use Rattle.reader.specs.Step.{taken}
 use Rattle.plain.specs.declared.known.Part.{Part}
 use Rattle.plain.specs.declared.known.Known.{Known}
@@ -148,11 +148,11 @@ in_tag_is q w = ⊎_elim (λ e. rw e in_tag_none) (in_tag_quote q) w
 
 -- a tag of which all bytes were read
 unclosed : (doc : List ℕ) (k : Known) (shape : Shape) → k.at ≡ length doc → Tagged doc k → cut_next doc k.from ≡ cut_tag doc k.from shape
-    → cut_next doc k.from ≡ stopCut (in_tag k.quote) k.from (length doc)
+    → cut_next doc k.from ≡ stop_of_cut (in_tag k.quote) k.from (length doc)
 unclosed doc k shape e t c =
     c
     ∙ tag_open doc k.from shape (quoted k.quote) (t.scan ∙ ap element_answer (scan_end element_step (quoted k.quote) doc k.at (omega arith)))
-    ∙ ap (λ (x : Error). stopCut x k.from (length doc)) (in_tag_is k.quote t.quote)
+    ∙ ap (λ (x : Error). stop_of_cut x k.from (length doc)) (in_tag_is k.quote t.quote)
 
 -- a lone `<` at the end
 pub opened_open : (doc : List ℕ) (r : Reader) (open_name : Span) (room : Depth) (k : Known) → Tracks doc open_name k → k.at ≡ length doc → k.part ≡ Part.Opened
@@ -189,7 +189,7 @@ module _ (doc : List ℕ) (r : Reader) (open_name : Span) (room : Depth) (k : Kn
       first_late (White doc) k.from k.at k.name (k.from + 1) t.name (omega arith)
       (λ j h l w. clash (is_white (get_or doc j 0)) w (ap is_white (byte_same doc j k.from (omega arith) ∙ e)))
 
-  named : (to : ℕ) → k.from + 1 ≤ to → to ≤ k.at → whiteLen (part doc (k.from + 1) to) ≡ name_len k (span (k.from + 1) to)
+  named : (to : ℕ) → k.from + 1 ≤ to → to ≤ k.at → white_len (part doc (k.from + 1) to) ≡ name_len k (span (k.from + 1) to)
   named to h n = name_is doc k.from k.at k.name (k.from + 1) to t.name name_behind (omega arith) h n t.high
 
   -- what lies between `<` and `>`, or `/>`

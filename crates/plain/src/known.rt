@@ -1,8 +1,8 @@
 // All that is known of a piece from its bytes so far, and what one byte more does to it.
 ghost use Rattle.std.specs.Prelude.{◌≡◌, ◌<◌};
 ghost use Rattle.state.specs.Limits.{longest};
-ghost use Rattle.plain.specs.Letters.{owing as owingOf, lead as leadOf, letter};
-ghost use Rattle.plain.specs.Known.{next_part, goes as goesOf, opens as opens_of, next_quote, reach as reachOf, fresh as fresh_of, size_of, name_len as nameLenOf, ends_of, tick_of};
+ghost use Rattle.plain.specs.Letters.{owing as owing_of, lead as lead_of, letter};
+ghost use Rattle.plain.specs.Known.{next_part, goes as goes_of, opens as opens_of, next_quote, reach as reach_of, fresh as fresh_of, size_of, name_len as name_len_of, ends_of, tick_of};
 
 use ground::byte_at;
 use state::place::Span;
@@ -72,14 +72,14 @@ pub struct Known {
 
 // A character that began at `at` and owes so many bytes, the next of them from `low` to `top`.
 fn owing(at: usize, owed: usize, low: u8, top: u8) -> Letters
-    ensures { result ≡ owingOf at owed low top }
+    ensures { result ≡ owing_of at owed low top }
 {
     Letters { owed, low, top, at }
 }
 
 // What the first byte of a character says, which stands at `at`.
 fn lead(at: usize, b: u8) -> Letters
-    ensures { result ≡ leadOf at b }
+    ensures { result ≡ lead_of at b }
 {
     match b {
         0x00..=0x7F => owing(at, 0, 0x80, 0xBF),
@@ -154,7 +154,7 @@ impl Part {
 
 // Whether a byte may stand at this place of a piece that begins with the word: any byte may behind it.
 fn goes(word: &[u8], offset: usize, b: u8) -> bool
-    ensures { result ≡ goesOf word.now offset b }
+    ensures { result ≡ goes_of word.now offset b }
 {
     (word.len() <= offset) | (byte_at(word, offset) == b)
 }
@@ -175,7 +175,7 @@ fn next_quote(quote: u8, b: u8) -> u8
 // The first place where something is so, or how far was read: with the byte at `at`, where it is so or not.
 fn reach(first: usize, at: usize, so: bool) -> usize
     requires { at < longest }
-    ensures { result ≡ reachOf first at so }
+    ensures { result ≡ reach_of first at so }
 {
     if (first == at) & !so { at + 1 } else { first }
 }
@@ -213,7 +213,7 @@ impl Known {
 
     // How many bytes of the content are the name: those before the first white space. No byte of an opener is white space, so the piece's first is the content's.
     pub fn name_len(self, content: Span) -> usize
-        ensures { result ≡ nameLenOf self content }
+        ensures { result ≡ name_len_of self content }
     {
         let to = if self.name < content.to {
             self.name

@@ -16,8 +16,8 @@ mod told;
 
 ghost use Rattle.std.specs.Prelude.{◌≡◌, ◌+◌, ◌*◌, ◌≤◌, ◌<◌, length};
 ghost use Rattle.state.specs.Limits.{slots};
-ghost use Rattle.reader.specs.Names.{latest as latestOf, pushed};
-ghost use Rattle.reader.specs.Sound.{is_in_place, sound as soundOf};
+ghost use Rattle.reader.specs.Names.{latest as latest_of, pushed};
+ghost use Rattle.reader.specs.Sound.{is_in_place, sound as sound_of};
 ghost use Rattle.reader.specs.Step.{step, step_phase, Stepped};
 ghost use Rattle.plain.specs.Known.{same_of};
 ghost use Rattle.plain.specs.Asked.{Faces, Readable, Placed, read_from};
@@ -71,7 +71,7 @@ fn answer(reader: Reader, document: &[u8], stack: &[usize]) -> Step
 
 // Whether the state may be read on from, over this document and this stack. At depth 0 the latest name is 0..0, and passes.
 fn sound(reader: Reader, document: &[u8], stack: &[usize]) -> bool
-    ensures { result ≡ soundOf document.now stack.now reader }
+    ensures { result ≡ sound_of document.now stack.now reader }
 {
     let length = document.len();
     let at = reader.position.0;
@@ -105,7 +105,7 @@ fn in_place(reader: Reader, document: &[u8]) -> bool
 // The latest open name; 0..0 where none is open.
 fn latest(stack: &[usize], depth: Depth) -> Span
     requires { depth.0 * slots ≤ length stack.now }
-    ensures { result ≡ latestOf stack.now depth.0 }
+    ensures { result ≡ latest_of stack.now depth.0 }
 {
     if depth.0 == 0 {
         return Span { from: 0, to: 0 };

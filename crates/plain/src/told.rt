@@ -2,7 +2,7 @@
 ghost use Rattle.std.specs.Prelude.{◌≡◌, ◌<◌};
 ghost use Rattle.state.specs.Limits.{longest};
 ghost use Rattle.emit.specs.End.{close_expanded_empty};
-ghost use Rattle.plain.specs.Told.{tell as tellOf, stop as stopOf, behind as behindOf, closed_of, unclosed_of, no_markup, no_closer, whole_of, text_of, reference_of, comment_of, cdata_of, instruction_of, opening_of, closing_of};
+ghost use Rattle.plain.specs.Told.{tell as tell_of, stop as stop_of, behind as behind_of, closed_of, unclosed_of, no_markup, no_closer, whole_of, text_of, reference_of, comment_of, cdata_of, instruction_of, opening_of, closing_of};
 
 use crate::known::{Known, Part};
 use state::answer::{Error, Event, Kind};
@@ -11,7 +11,7 @@ use state::run::{Phase, Reader, Step};
 
 // An event. The reader goes on after its piece.
 fn tell(reader: Reader, kind: Kind, piece: Span, content: Span, name: usize, next: Phase) -> Step
-    ensures { result ≡ tellOf reader kind piece content name next }
+    ensures { result ≡ tell_of reader kind piece content name next }
 {
     let event = Event {
         kind,
@@ -24,14 +24,14 @@ fn tell(reader: Reader, kind: Kind, piece: Span, content: Span, name: usize, nex
 
 // A refusal at the piece's start, which ends the run.
 fn stop(reader: Reader, error: Error, piece: Span) -> Step
-    ensures { result ≡ stopOf reader error piece }
+    ensures { result ≡ stop_of reader error piece }
 {
     reader.stop(error, Position(piece.from), piece)
 }
 
 // The phase behind a piece that ends at this byte: before a `<` or a `&`, or with another byte.
 fn behind(b: u8) -> Phase
-    ensures { result ≡ behindOf b }
+    ensures { result ≡ behind_of b }
 {
     match b {
         b'<' => Phase::InsideMarkup,

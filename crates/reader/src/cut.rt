@@ -1,7 +1,7 @@
 // Cuts the next piece off the document: what it is and where it ends, or why there is none. Neither settings nor open names count here.
 ghost use Rattle.std.specs.Prelude.{◌≡◌, ◌<◌, length};
 ghost use Rattle.reader.specs.Asked.{EndsWithin, tag_shape};
-ghost use Rattle.reader.specs.Cut.{whole as whole_of, stop as stopOf, phase_at, cut_text, cut_ref, unclosed_tag, cut_tag, cut_marked, cut_bang, cut_question, cut_markup, cut_next};
+ghost use Rattle.reader.specs.Cut.{whole as whole_of, stop as stop_of, phase_at, cut_text, cut_ref, unclosed_tag, cut_tag, cut_marked, cut_bang, cut_question, cut_markup, cut_next};
 
 use crate::piece::{Cut, Piece, Shape};
 use emit::question::unclosed;
@@ -26,7 +26,7 @@ fn whole(shape: Shape, from: usize, to: usize, next: Phase) -> Cut
 
 // A refusal of the piece that starts at `from`, which leaves the reader at `left`.
 fn stop(error: Error, from: usize, left: usize) -> Cut
-    ensures { result ≡ stopOf error from left }
+    ensures { result ≡ stop_of error from left }
 {
     let piece = Span { from, to: left };
     Cut::Stop(Refusal {

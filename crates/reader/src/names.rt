@@ -1,7 +1,7 @@
 // The lent stack of open names: two slots to a name, its start and its end.
 ghost use Rattle.std.specs.Prelude.{◌≡◌, ◌+◌, ◌*◌, ◌≤◌, ◌<◌, length};
 ghost use Rattle.state.specs.Limits.{slots};
-ghost use Rattle.reader.specs.Names.{latest as latestOf, pushed, written};
+ghost use Rattle.reader.specs.Names.{latest as latest_of, pushed, written};
 ghost use Rattle.reader.specs.Asked.{Room};
 
 use state::answer::{Answer, Kind};
@@ -11,7 +11,7 @@ use state::place::{Depth, Span};
 // The latest open name; 0..0 where none is open.
 pub fn latest(stack: &[usize], depth: Depth) -> Span
     requires { depth.0 * slots ≤ length stack.now }
-    ensures { result ≡ latestOf stack.now depth.0 }
+    ensures { result ≡ latest_of stack.now depth.0 }
 {
     if depth.0 == 0 {
         return Span { from: 0, to: 0 };

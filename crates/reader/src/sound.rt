@@ -1,6 +1,6 @@
 // Which states are refused.
 ghost use Rattle.std.specs.Prelude.{◌≡◌};
-ghost use Rattle.reader.specs.Sound.{is_in_place, sound as soundOf};
+ghost use Rattle.reader.specs.Sound.{is_in_place, sound as sound_of};
 
 use crate::names::latest;
 use ground::byte_at;
@@ -9,7 +9,7 @@ use state::run::{Phase, Reader};
 
 // Whether the state is not refused over this document and this stack.
 pub fn sound(reader: Reader, document: &[u8], stack: &[usize]) -> bool
-    ensures { result ≡ soundOf document.now stack.now reader }
+    ensures { result ≡ sound_of document.now stack.now reader }
 {
     let length = document.len();
     let at = reader.position.0;

@@ -2,7 +2,7 @@
 ghost use Rattle.std.specs.Prelude.{◌≡◌, true};
 ghost use Rattle.reader.specs.Asked.{due_of};
 ghost use Rattle.reader.specs.Sound.{is_in_place};
-ghost use Rattle.reader.specs.Step.{begin as beginOf, skipped, emitted, checked as checkedOf, taken, step_phase, step};
+ghost use Rattle.reader.specs.Step.{begin as begin_of, skipped, emitted, checked as checked_of, taken, step_phase, step};
 
 use crate::cut::cut_next;
 use crate::names::latest;
@@ -70,7 +70,7 @@ fn what_is_due(reader: Reader, document: &[u8]) -> Due
 
 // Where the document begins: after the byte order mark.
 fn begin(document: &[u8]) -> usize
-    ensures { result ≡ beginOf document.now }
+    ensures { result ≡ begin_of document.now }
 {
     if starts_with(document, 0, b"\xEF\xBB\xBF") {
         3
@@ -107,7 +107,7 @@ fn take(reader: Reader, document: &[u8], last: Span, capacity: Depth, cut: Cut) 
 
 // A piece, if it is well-formed UTF-8; else it is refused at its first ill-formed byte.
 fn checked(reader: Reader, document: &[u8], last: Span, capacity: Depth, piece: Piece) -> Step
-    ensures { result ≡ checkedOf document.now reader last capacity piece }
+    ensures { result ≡ checked_of document.now reader last capacity piece }
 {
     let span = piece.span;
     let utf8 = check(document, span.from, span.to);

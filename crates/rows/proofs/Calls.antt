@@ -19,7 +19,7 @@ use Rattle.state.proofs.Room.{capacity_slots}
 use Rattle.state.specs.Make.{fresh}
 use Rattle.reader.specs.Names.{entry}
 use Rattle.demands.specs.Run.{World, said, run}
-use Rattle.demands.specs.Answers.{isStart}
+use Rattle.demands.specs.Answers.{is_start}
 use Rattle.demands.specs.Open.{left_open}
 use Rattle.demands.specs.Calls.{Promise, Advances, Calls}
 use Rattle.demands.specs.Growing.{Enough, Growing}
@@ -88,9 +88,9 @@ deep_after lent left back before after (inr all) long h deep =
 
 -- a call opens one name at most
 pub one_more_at_most : (doc stack : List ℕ) (c : Config) → length doc ≤ longest → (n : ℕ) → (run doc stack c (suc n)).reader.depth.0 ≤ (run doc stack c n).reader.depth.0 + 1
-one_more_at_most doc stack c short n = by (isStart (said doc (run doc stack c n))) refl
+one_more_at_most doc stack c short n = by (is_start (said doc (run doc stack c n))) refl
   where
-    by : (t : Bool) → isStart (said doc (run doc stack c n)) ≡ t → (run doc stack c (suc n)).reader.depth.0 ≤ (run doc stack c n).reader.depth.0 + 1
+    by : (t : Bool) → is_start (said doc (run doc stack c n)) ≡ t → (run doc stack c (suc n)).reader.depth.0 ≤ (run doc stack c n).reader.depth.0 + 1
     by true e = omega (arith, as_many_as_the_depth doc stack c short n, as_many_as_the_depth doc stack c short (suc n), ap length (start_adds_its_name doc stack c short n e))
     by false e = elim (nothing_else_adds doc stack c short n e) [
       | inl x ↦ omega (arith, as_many_as_the_depth doc stack c short n, as_many_as_the_depth doc stack c short (suc n), ap length x)

@@ -69,10 +69,10 @@ module _ (s : List ℕ) (p : Position) (n d : Depth) where
   pub one_past : p.0 < to → Given.BadState ≡ row_of s p n d
   one_past h = one_disordered (fails (leb from to ∷ []) [] (leb to p.0) (lt-leb to p.0 h))
 
-  pub one_is : (k : Depth) → k ≡ depth_of (capacity (length s)) → n.0 ≤ k.0 → (d.0 ≡ 0 → ⊥) → d.0 ≤ n.0 → from ≤ to → to ≤ p.0
+  pub one_is_lem : (k : Depth) → k ≡ depth_of (capacity (length s)) → n.0 ≤ k.0 → (d.0 ≡ 0 → ⊥) → d.0 ≤ n.0 → from ≤ to → to ≤ p.0
       → Given.Row (record { start = at from; end = at to; depth = d }) ≡ row_of s p n d
   unfolding row_of
-  one_is k e deep some l h j =
+  one_is_lem k e deep some l h j =
       let up : d.0 ≡ d.0 - 1 + 1 = omega arith in
       rw (
         le-leb n.0 (capacity (length s)) (omega (arith, ap (λ (x : Depth). x.0) e)),
@@ -97,7 +97,7 @@ module _ (s : List ℕ) (n d k : Depth) (e : k ≡ depth_of (capacity (length s)
   pub one_ends : (d.0 - 1) * slots + 1 < length s
   one_ends = omega (arith, told_slots (length s) k d e (omega arith))
 
-pub ruleset ones = (rules, one_starts, one_fits, one_next_fits, one_ends, one_over, one_outside, one_above, one_crossed, one_past, one_is)
+pub ruleset ones = (rules, one_starts, one_fits, one_next_fits, one_ends, one_over, one_outside, one_above, one_crossed, one_past, one_is_lem)
 
 -- ---- what is known of a record that is given
 

@@ -10,13 +10,13 @@ use Rattle.rows.specs.declared.row.Filled.{Filled}
 abbrev pub bad_number : ℕ
 bad_number = (numbered_of Error.BadState).number
 
-abbrev pub givenNumber : Given → ℕ
-givenNumber (Given.Row row) = 0
-givenNumber Given.BadState = bad_number
+abbrev pub given_number : Given → ℕ
+given_number (Given.Row row) = 0
+given_number Given.BadState = bad_number
 
-abbrev pub filledNumber : Filled → ℕ
-filledNumber (Filled.Rows n) = 0
-filledNumber Filled.BadState = bad_number
+abbrev pub filled_number : Filled → ℕ
+filled_number (Filled.Rows n) = 0
+filled_number Filled.BadState = bad_number
 
 abbrev pub count_of : Filled → ℕ
 count_of (Filled.Rows n) = n

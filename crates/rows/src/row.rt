@@ -1,6 +1,6 @@
 // The record of a name that is open, and what is answered: records, or the refusal of what is lent.
 ghost use Rattle.std.specs.Prelude.{◌≡◌};
-ghost use Rattle.rows.specs.Answers.{bad_number, givenNumber, filledNumber, count_of};
+ghost use Rattle.rows.specs.Answers.{bad_number, given_number, filled_number, count_of};
 
 use state::answer::Error;
 use state::place::{Depth, Position};
@@ -39,7 +39,7 @@ fn bad_number() -> usize
 impl Given {
     // The number of the refusal; 0 where there is none.
     pub fn number(self) -> usize
-        ensures { result ≡ givenNumber self }
+        ensures { result ≡ given_number self }
     {
         match self {
             Given::Row(_) => 0,
@@ -51,7 +51,7 @@ impl Given {
 impl Filled {
     // The number of the refusal; 0 where there is none.
     pub fn number(self) -> usize
-        ensures { result ≡ filledNumber self }
+        ensures { result ≡ filled_number self }
     {
         match self {
             Filled::Rows(_) => 0,

@@ -1,6 +1,6 @@
 // The answers of a call: an event or a refusal, and the paper's numbers for each.
 ghost use Rattle.std.specs.Prelude.{◌≡◌};
-ghost use Rattle.state.specs.Values.{kind_number, spanless as spanlessOf, numbered_of, event_values, refusal_values, values_of};
+ghost use Rattle.state.specs.Values.{kind_number, spanless as spanless_of, numbered_of, event_values, refusal_values, values_of};
 
 use crate::place::{Position, Span};
 
@@ -106,7 +106,7 @@ impl Kind {
 
 // A refusal's number, with no spans.
 fn spanless(number: usize) -> Numbered
-    ensures { result ≡ spanlessOf number }
+    ensures { result ≡ spanless_of number }
 {
     let none = Span { from: 0, to: 0 };
     Numbered {

@@ -1,6 +1,6 @@
 // The limits as the code has them; `specs/Limits` has them for the definitions. No other code says the numbers.
 ghost use Rattle.std.specs.Prelude.{◌≡◌};
-ghost use Rattle.state.specs.Limits.{capacity as capacityOf};
+ghost use Rattle.state.specs.Limits.{capacity as capacity_of};
 ghost use Rattle.state.specs.Place.{depth_of};
 
 use crate::place::Depth;
@@ -16,7 +16,7 @@ pub const SLOTS: usize = 2;
 
 // How many names a stack of so many slots holds.
 pub fn capacity(slots: usize) -> Depth
-    ensures { result ≡ depth_of (capacityOf slots) }
+    ensures { result ≡ depth_of (capacity_of slots) }
 {
     let names = slots / SLOTS;
     if names < MOST {

@@ -1,6 +1,6 @@
 // Places in the document and depths of the stack of names. A place is no depth, and the types keep the two apart.
 ghost use Rattle.std.specs.Prelude.{◌≡◌, ◌-◌};
-ghost use Rattle.state.specs.Place.{inner as inner_of, size as size_of, fewer as fewerOf};
+ghost use Rattle.state.specs.Place.{inner as inner_of, size as size_of, fewer as fewer_of};
 
 // A byte's place in the document, counted from its first byte.
 #[derive(Clone, Copy)]
@@ -20,7 +20,7 @@ pub struct Span {
 impl Depth {
     // One name fewer, where there is one.
     pub fn fewer(self) -> Depth
-        ensures { result ≡ fewerOf self }
+        ensures { result ≡ fewer_of self }
     {
         if self.0 == 0 {
             Depth(0)

@@ -1,6 +1,6 @@
 // The reader's state, and the makers: no other code of the libraries writes a reader's fields.
 ghost use Rattle.std.specs.Prelude.{◌≡◌, length};
-ghost use Rattle.state.specs.Make.{made, moved as movedOf, with_depth, marked as markedOf, told, ended, refuses_end, ending, stopped, refused, bad_state};
+ghost use Rattle.state.specs.Make.{made, moved as moved_of, with_depth, marked as marked_of, told, ended, refuses_end, ending, stopped, refused, bad_state};
 
 use crate::answer::{Answer, Error, Event, Kind, Refusal};
 use crate::config::Config;
@@ -70,7 +70,7 @@ impl Reader {
 
     // The reader in another phase at another place.
     fn moved(self, phase: Phase, at: usize) -> Reader
-        ensures { result ≡ movedOf self phase at }
+        ensures { result ≡ moved_of self phase at }
     {
         let depth = self.depth;
         let settings = self.settings;
@@ -103,7 +103,7 @@ impl Reader {
 
     // The reader with its mark on.
     fn marked(self) -> Reader
-        ensures { result ≡ markedOf self }
+        ensures { result ≡ marked_of self }
     {
         let phase = self.phase;
         let position = self.position;

@@ -3,7 +3,7 @@
 use mathlib.Core.Path.{◌≡◌, refl, sym, ◌∙◌}
 use mathlib.Core.List.{map}
 use Rattle.state.specs.Make.{bad_state}
-use Rattle.demands.specs.Answers.{count, oneIs}
+use Rattle.demands.specs.Answers.{count, one_is}
 use Rattle.demands.specs.Open.{left_open}
 use Rattle.demands.specs.Laid.{layout, pieces_in}
 use Rattle.demands.specs.Openings.{openings}
@@ -33,7 +33,7 @@ use Rattle.statements.proofs.Settled.{number, flag, phase, slots, settings, worl
 
 -- at worlds that are worked out
 settled_hold : map (settled left) openings ≡ map (settled right) openings
-unfolding settled settled_from world number flag phase slots settings left_open count oneIs bad_state openings entries close_expanded_empty run call step step_phase step_text begin skipped taken checked emitted sound is_in_place latest pushed written cut_next cut_markup cut_question cut_bang cut_marked cut_tag unclosed_tag cut_ref cut_text phase_at whole stop emit_start opening tag slashed emit_end matched differs unmatched end_event closing_name emit_question_mark question_event is_decl emit_cdata emit_comment bang_event emit_dangling emit_ref emit_last_text emit_text text_content stopped refused ending refuses_end ended told marked with_depth moved fresh inner capacity feed check_from row_len in_ranges kept_of until begins same
+unfolding settled settled_from world number flag phase slots settings left_open count one_is bad_state openings entries close_expanded_empty run call step step_phase step_text begin skipped taken checked emitted sound is_in_place latest pushed written cut_next cut_markup cut_question cut_bang cut_marked cut_tag unclosed_tag cut_ref cut_text phase_at whole stop emit_start opening tag slashed emit_end matched differs unmatched end_event closing_name emit_question_mark question_event is_decl emit_cdata emit_comment bang_event emit_dangling emit_ref emit_last_text emit_text text_content stopped refused ending refuses_end ended told marked with_depth moved fresh inner capacity feed check_from row_len in_ranges kept_of until begins same
 settled_hold = refl
 
 -- THEOREM

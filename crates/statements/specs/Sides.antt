@@ -8,7 +8,7 @@ use Rattle.state.specs.declared.run.Phase.{Phase}
 use Rattle.state.specs.Values.{values_of, turns_on}
 use Rattle.reader.specs.Names.{name_of, bytes}
 use Rattle.demands.specs.Run.{World, said, call, run}
-use Rattle.demands.specs.Answers.{isStart, is_end, isEof, isMismatch, isUnmatched, isUnclosed, isEnding, isBadState, count, oneIs}
+use Rattle.demands.specs.Answers.{is_start, is_end, is_eof, is_mismatch, is_unmatched, is_unclosed, is_ending, is_bad_state, count, one_is}
 use Rattle.demands.specs.Open.{opened, newest, left_open}
 use Rattle.demands.specs.Openings.{Example}
 use Rattle.emit.specs.Start.{slashed}
@@ -39,10 +39,10 @@ module _ (x : Example) (w : World) where
   after = call doc w
 
   abbrev takes_one : Bool
-  takes_one = pick x.settings.allow_unmatched_ends false (pick (is_end answer) true (isMismatch answer))
+  takes_one = pick x.settings.allow_unmatched_ends false (pick (is_end answer) true (is_mismatch answer))
 
   abbrev keeps_all : Bool
-  keeps_all = pick (isStart answer) false (pick (is_end answer) false (pick (isMismatch answer) false true))
+  keeps_all = pick (is_start answer) false (pick (is_end answer) false (pick (is_mismatch answer) false true))
 
   abbrev carries_one : Bool
   carries_one = pick x.settings.allow_unmatched_ends false (pick x.settings.check_end_names (is_end answer) false)
@@ -50,32 +50,32 @@ module _ (x : Example) (w : World) where
   -- open names are checked, and Eof is answered after neither 18 nor a refusal that ended the run
   abbrev ends_whole : Bool
   ends_whole =
-      pick x.settings.check_open_names (pick (isEof answer) (pick (oneIs isUnclosed w.answers) false (not (oneIs isEnding w.answers))) false) false
+      pick x.settings.check_open_names (pick (is_eof answer) (pick (one_is is_unclosed w.answers) false (not (one_is is_ending w.answers))) false) false
 
   abbrev pub left : Side
   left =
       record {
         told = opened w;
-        adds = pick (isStart answer) (opened after) [];
-        own = pick (isStart answer) (bytes doc (name_of answer)) [];
+        adds = pick (is_start answer) (opened after) [];
+        own = pick (is_start answer) (bytes doc (name_of answer)) [];
         takes = pick takes_one (opened w) [];
         keeps = pick keeps_all (opened after) [];
         carries = pick carries_one (bytes doc (values_of answer).content) [];
-        unmatched = pick (isUnmatched answer) (opened w) [];
+        unmatched = pick (is_unmatched answer) (opened w) [];
         whole = pick ends_whole (opened w) [];
-        latest = pick (isUnclosed answer) (values_of answer).place 0;
-        counts = pick x.settings.allow_unmatched_ends 0 (count isStart w.answers);
+        latest = pick (is_unclosed answer) (values_of answer).place 0;
+        counts = pick x.settings.allow_unmatched_ends 0 (count is_start w.answers);
         tests =
             sound doc w.stack w.reader
-            ∷ isBadState answer
+            ∷ is_bad_state answer
             ∷ leb w.reader.position.0 after.reader.position.0
-            ∷ pick (isMismatch answer) (is_end answer) false
-            ∷ pick (isStart answer) (pick (slashed doc (values_of answer).piece) (is_end (said doc after)) true) true
-            ∷ pick (isEof answer) (isEof (said doc after)) true
-            ∷ pick (isUnclosed answer) (isEof (said doc after)) true
-            ∷ pick (isUnclosed answer) (oneIs turns_on w.answers) false
-            ∷ pick (isUnclosed answer) (eqb (length (opened w)) 0) false
-            ∷ pick (isUnclosed answer) x.settings.check_open_names true
+            ∷ pick (is_mismatch answer) (is_end answer) false
+            ∷ pick (is_start answer) (pick (slashed doc (values_of answer).piece) (is_end (said doc after)) true) true
+            ∷ pick (is_eof answer) (is_eof (said doc after)) true
+            ∷ pick (is_unclosed answer) (is_eof (said doc after)) true
+            ∷ pick (is_unclosed answer) (one_is turns_on w.answers) false
+            ∷ pick (is_unclosed answer) (eqb (length (opened w)) 0) false
+            ∷ pick (is_unclosed answer) x.settings.check_open_names true
             ∷ w.reader.mark
             ∷ [];
       }
@@ -84,16 +84,16 @@ module _ (x : Example) (w : World) where
   right =
       record {
         told = left_open w.answers;
-        adds = pick (isStart answer) (name_of answer ∷ opened w) [];
-        own = pick (isStart answer) (take (name_len (bytes doc (values_of answer).content)) (bytes doc (values_of answer).content)) [];
+        adds = pick (is_start answer) (name_of answer ∷ opened w) [];
+        own = pick (is_start answer) (take (name_len (bytes doc (values_of answer).content)) (bytes doc (values_of answer).content)) [];
         takes = pick takes_one (newest w ∷ opened after) [];
         keeps = pick keeps_all (opened w) [];
         carries = pick carries_one (bytes doc (newest w)) [];
         unmatched = [];
         whole = [];
-        latest = pick (isUnclosed answer) (newest w).from 0;
-        counts = pick x.settings.allow_unmatched_ends 0 (count is_end w.answers + count isMismatch w.answers + length (opened w));
-        tests = true ∷ false ∷ true ∷ false ∷ true ∷ true ∷ true ∷ false ∷ false ∷ true ∷ oneIs turns_on w.answers ∷ [];
+        latest = pick (is_unclosed answer) (newest w).from 0;
+        counts = pick x.settings.allow_unmatched_ends 0 (count is_end w.answers + count is_mismatch w.answers + length (opened w));
+        tests = true ∷ false ∷ true ∷ false ∷ true ∷ true ∷ true ∷ false ∷ false ∷ true ∷ one_is turns_on w.answers ∷ [];
       }
 
 module _ (side : Example → World → Side) (x : Example) where
@@ -112,7 +112,7 @@ pub record End : Type 0 where
 unfoldable pub ends : Example → End
 ends x =
     record {
-      says = isEof (said x.doc (run x.doc (replicate x.slots 0) x.settings (length x.doc + 1)));
+      says = is_eof (said x.doc (run x.doc (replicate x.slots 0) x.settings (length x.doc + 1)));
       phase = (run x.doc (replicate x.slots 0) x.settings (length x.doc + 1)).reader.phase;
     }
 

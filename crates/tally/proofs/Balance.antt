@@ -17,7 +17,7 @@ use Rattle.state.specs.Make.{made}
 use Rattle.state.specs.Values.{kind_number, values_of}
 use Rattle.state.proofs.Numbers.{no_number}
 use Rattle.demands.specs.Run.{World, said, call, run, AtRest}
-use Rattle.demands.specs.Answers.{isStart, is_end, isEof, isMismatch, count}
+use Rattle.demands.specs.Answers.{is_start, is_end, is_eof, is_mismatch, count}
 use Rattle.demands.proofs.Demand1.{a_reader_made_is_a_run's, eof_by_length_and_two, eof_stays}
 use Rattle.demands.proofs.Demand3.{starts_are_ends_mismatches_and_open, as_many_as_the_depth}
 use Rattle.tally.specs.declared.Counts.{Counts}
@@ -25,18 +25,18 @@ use Rattle.tally.specs.declared.Tallied.{Tallied}
 use Rattle.tally.specs.Tally.{budget, counts, after_all, tallied_as, tallied}
 
 -- an Eof is none of the answers that are counted
-module _ (a : Answer) (e : isEof a ≡ true) where
-  is_eof : (values_of a).kind ≡ kind_number Kind.Eof
-  is_eof = eqb-true (values_of a).kind (kind_number Kind.Eof) e
+module _ (a : Answer) (e : is_eof a ≡ true) where
+  is_eof_lem : (values_of a).kind ≡ kind_number Kind.Eof
+  is_eof_lem = eqb-true (values_of a).kind (kind_number Kind.Eof) e
 
-  no_start : isStart a ≡ false
-  no_start = ne_eqb (values_of a).kind (kind_number Kind.Start) (λ k. omega (arith, is_eof))
+  no_start : is_start a ≡ false
+  no_start = ne_eqb (values_of a).kind (kind_number Kind.Start) (λ k. omega (arith, is_eof_lem))
 
   no_end : is_end a ≡ false
-  no_end = ne_eqb (values_of a).kind (kind_number Kind.End) (λ k. omega (arith, is_eof))
+  no_end = ne_eqb (values_of a).kind (kind_number Kind.End) (λ k. omega (arith, is_eof_lem))
 
-  no_mismatch : isMismatch a ≡ false
-  no_mismatch = let n = no_number a (omega (arith, is_eof)) in ne_eqb (values_of a).number 10 (λ k. omega arith)
+  no_mismatch : is_mismatch a ≡ false
+  no_mismatch = let n = no_number a (omega (arith, is_eof_lem)) in ne_eqb (values_of a).number 10 (λ k. omega arith)
 
 -- what is counted is counted of a run over a document within the limit
 module _ (doc stack : List ℕ) (c : Config) where
@@ -66,7 +66,7 @@ module _ (doc stack : List ℕ) (c : Config) (short : length doc ≤ longest) wh
       let b : budget doc ≡ suc (length doc + 1) = omega arith in
       rw b (eof_stays doc stack c short (length doc + 1) (eof_by_length_and_two doc stack c short) k)
 
-  module _ (is : Answer → Bool) (none : (a : Answer) → isEof a ≡ true → is a ≡ false) where
+  module _ (is : Answer → Bool) (none : (a : Answer) → is_eof a ≡ true → is a ≡ false) where
     next_count : (n : ℕ) → is (said doc (run doc stack c n)) ≡ false → count is (run doc stack c (suc n)).answers ≡ count is (run doc stack c n).answers
     unfolding run call count
     next_count n e = ap (λ (t : Bool). pick t 1 0 + count is (run doc stack c n).answers) e ∙ zero-add _
@@ -79,8 +79,8 @@ module _ (doc stack : List ℕ) (c : Config) (short : length doc ≤ longest) wh
   pub more_calls_count_nothing : (k : ℕ) → counts (later k) ≡ counts (after_all doc stack c)
   more_calls_count_nothing k =
       rw (
-        count_stays isStart no_start k,
+        count_stays is_start no_start k,
         count_stays is_end no_end k,
-        count_stays isMismatch no_mismatch k,
+        count_stays is_mismatch no_mismatch k,
         (at_rest k).reader,
       )

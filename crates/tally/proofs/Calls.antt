@@ -26,7 +26,7 @@ use Rattle.reader.specs.Names.{written}
 use Rattle.reader.specs.Step.{step, Stepped}
 use Rattle.demands.specs.Run.{said, call, run}
 use Rattle.demands.proofs.Demand1.{a_reader_made_is_a_run's}
-use Rattle.demands.specs.Answers.{isStart, is_end, isMismatch, count}
+use Rattle.demands.specs.Answers.{is_start, is_end, is_mismatch, count}
 use Rattle.tally.specs.declared.Tallied.{Tallied}
 use Rattle.tally.specs.Tally.{budget, tallied, left_stack, Summed}
 
@@ -66,9 +66,9 @@ module _ (is : Answer → Bool) (doc stack : List ℕ) (c : Config) where
 pub record Going (doc stack₀ : List ℕ) (c : Config) (i : ℕ) (stack : List ℕ) (r : Reader) (starts ends wrongs : ℕ) : Type 0 where
   pub reader : r ≡ (run doc stack₀ c i).reader
   pub slots : stack ≡ (run doc stack₀ c i).stack
-  pub openings : starts ≡ count isStart (run doc stack₀ c i).answers
+  pub openings : starts ≡ count is_start (run doc stack₀ c i).answers
   pub closings : ends ≡ count is_end (run doc stack₀ c i).answers
-  pub mismatches : wrongs ≡ count isMismatch (run doc stack₀ c i).answers
+  pub mismatches : wrongs ≡ count is_mismatch (run doc stack₀ c i).answers
 
 -- one call more, where the counts are added to as the answer's values say
 pub going_on : (doc stack₀ stack after : List ℕ) (c : Config) (r : Reader) (s : Step) (v : Values) (i starts ends wrongs start end x y z : ℕ)
@@ -90,9 +90,9 @@ going_on doc stack₀ stack after c r s v i starts ends wrongs start end x y z e
     record {
       reader = rw (run_more doc stack₀ c i) (ap (λ (t : Step). t.reader) e);
       slots = rw (run_more doc stack₀ c i) f;
-      openings = count_more isStart doc stack₀ c i starts x g.openings (ex ∙ rw (u, es));
+      openings = count_more is_start doc stack₀ c i starts x g.openings (ex ∙ rw (u, es));
       closings = count_more is_end doc stack₀ c i ends y g.closings (ey ∙ rw (u, ee));
-      mismatches = count_more isMismatch doc stack₀ c i wrongs z g.mismatches (ez ∙ rw u);
+      mismatches = count_more is_mismatch doc stack₀ c i wrongs z g.mismatches (ez ∙ rw u);
     }
 
 -- ---- a reader is made, or none
@@ -114,9 +114,9 @@ module _ (doc stack : List ℕ) (c : Config) (m : Made) (e : m ≡ made (length 
         rw is_fresh record {
           reader = refl;
           slots = refl;
-          openings = count_none isStart doc stack c;
+          openings = count_none is_start doc stack c;
           closings = count_none is_end doc stack c;
-          mismatches = count_none isMismatch doc stack c;
+          mismatches = count_none is_mismatch doc stack c;
         }
 
     -- after the last

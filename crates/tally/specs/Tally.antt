@@ -4,7 +4,7 @@ use Rattle.state.specs.declared.config.Config.{Config}
 use Rattle.state.specs.declared.run.Made.{Made}
 use Rattle.state.specs.Make.{made}
 use Rattle.demands.specs.Run.{World, run}
-use Rattle.demands.specs.Answers.{isStart, is_end, isMismatch, count}
+use Rattle.demands.specs.Answers.{is_start, is_end, is_mismatch, count}
 use Rattle.tally.specs.declared.Counts.{Counts}
 use Rattle.tally.specs.declared.Tallied.{Tallied}
 
@@ -16,9 +16,9 @@ budget doc = length doc + 2
 abbrev pub counts : World → Counts
 counts w =
     record {
-      openings = count isStart w.answers;
+      openings = count is_start w.answers;
       closings = count is_end w.answers;
-      mismatches = count isMismatch w.answers;
+      mismatches = count is_mismatch w.answers;
       depth = w.reader.depth;
     }
 

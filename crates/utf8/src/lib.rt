@@ -4,7 +4,7 @@
 ghost use Rattle.std.specs.Prelude.{◌≡◌, ◌∷◌, ◌+◌, ◌-◌, ◌≤◌, ◌<◌, min, length, get_or, drop, replicate};
 ghost use Rattle.ground.specs.Choose.{pick};
 ghost use Rattle.ground.specs.Part.{part as part_of};
-ghost use Rattle.utf8.specs.Utf8.{utf8_tail, in_ranges, char_len, check as checkOf};
+ghost use Rattle.utf8.specs.Utf8.{utf8_tail, in_ranges, char_len, check as check_of};
 ghost use Rattle.utf8.specs.Ascii.{Ascii, Sure, Reached};
 
 use blocks::below;
@@ -83,7 +83,7 @@ fn long_len(s: &[u8], at: usize) -> usize
 
 // The check of all the bytes: by characters for a stretch, and then past blocks of ASCII.
 fn check_all(s: &[u8]) -> Utf8
-    ensures { result ≡ checkOf 0 s.now }
+    ensures { result ≡ check_of 0 s.now }
 {
     let mut i = 0;
     loop {
@@ -109,7 +109,7 @@ fn stretch(n: usize, from: usize) -> usize
 
 // From `from` on by characters: up to `end`, or to where none starts.
 fn by_chars(s: &[u8], from: usize, end: usize) -> usize
-    requires { (end ≤ length s.now) × (from ≤ length s.now) × (checkOf 0 s.now ≡ checkOf from (drop from s.now)) }
+    requires { (end ≤ length s.now) × (from ≤ length s.now) × (check_of 0 s.now ≡ check_of from (drop from s.now)) }
     ensures { Reached s.now from end result }
 {
     let mut i = from;
@@ -141,7 +141,7 @@ fn past_ascii(s: &[u8], from: usize) -> usize
 // The check of the bytes from `from` up to `to`, with the position counted in the whole slice. A span that does not lie in the
 // slice holds no bytes, and those are well formed.
 pub fn check(s: &[u8], from: usize, to: usize) -> Utf8
-    ensures { result ≡ checkOf from (part_of s.now from to) }
+    ensures { result ≡ check_of from (part_of s.now from to) }
 {
     if plain(s, from, to) {
         Utf8::WellFormed
@@ -185,7 +185,7 @@ fn long_plain(s: &[u8], from: usize, to: usize) -> bool
 
 // The check of a span by its bytes.
 fn check_part(s: &[u8], from: usize, to: usize) -> Utf8
-    ensures { result ≡ checkOf from (part_of s.now from to) }
+    ensures { result ≡ check_of from (part_of s.now from to) }
 {
     let u = check_all(ground::part(s, from, to));
     let Utf8::IllFormed(k) = u else {

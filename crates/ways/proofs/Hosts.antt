@@ -18,7 +18,7 @@ use Rattle.demands.proofs.Held.{written_length, run_held}
 use Rattle.rows.specs.declared.row.Row.{Row}
 use Rattle.rows.specs.declared.row.Filled.{Filled}
 use Rattle.rows.specs.declared.row.Given.{Given}
-use Rattle.rows.specs.Answers.{givenNumber, filledNumber, count_of}
+use Rattle.rows.specs.Answers.{given_number, filled_number, count_of}
 use Rattle.rows.specs.Rows.{row_at, row_of, plan_of, rows_from}
 use Rattle.rows.specs.Words.{way_down}
 use Rattle.rows.proofs.Calls.{still_deep, same_plan, same_rows, deep_after, one_more_at_most}
@@ -115,7 +115,7 @@ module _ (doc stack : List ℕ) (settings : ℕ) where
         let count : count_of (filled_in h.stack h.state many) ≡ filled_for told slots = ap count_of (planned many) ∙ ap (λ (d : ℕ). min d many) names in
         let rows : rows_from h.stack 0 (filled_for told slots) ≡ take many (way_down told) = ap (λ (d : ℕ). rows_from h.stack 0 (min d many)) (sym names) ∙ first many in
         record {
-          said = p.said ∙ sym (pick_nlt _ _ _ _ _ room refl) ∙ ap filledNumber (planned many);
+          said = p.said ∙ sym (pick_nlt _ _ _ _ _ room refl) ∙ ap filled_number (planned many);
           rows =
               p.rows
               ∙ sym (pick_nlt _ _ _ _ _ room refl)
@@ -137,7 +137,7 @@ module _ (doc stack : List ℕ) (settings : ℕ) where
         (ap (λ (d : ℕ). row_of h.stack r.position r.depth (depth_of d)) (sym up)
         ∙ plan_gives h.stack r.position r.depth depth (depth - 1) (omega (arith, ap count_of (plan_is depth)))) in
         record {
-          said = p.said ∙ ap givenNumber given;
+          said = p.said ∙ ap given_number given;
           row = λ any.
               let there : row_at h.stack (depth - 1) ≡ get_or (way_down told) (depth - 1) any =
               sym (row_there h.stack (min r.depth.0 depth) (depth - 1) any (omega arith))
