@@ -1,7 +1,7 @@
--- `is_eof_lem` meets its contract. Assumes nothing.
+-- `is_eof` meets its contract. Assumes nothing.
 use borrow.Author.Rules.{rules}
 use Rattle.columns.proofs.Answers.{eof_is}
-use Rattle.columns.proofs.told.is_eof_lem.Goals as goal
+use Rattle.columns.proofs.told.is_eof.Goals as goal
 
 pub values-values-requires : goal.values-values-requires
 values-values-requires c = search (rules, eof_is)
