@@ -2,10 +2,12 @@
 use mathlib.Core.Path.{sym, ◌∙◌}
 use mathlib.Core.Logic.{⊎_elim}
 use borrow.Author.Rules.{rules}
+use native.Mathlib.Omega.{arith}
 use Rattle.plain.specs.Letters.{lead}
 use Prim.Native.Nat.{◌-◌}
 use Rattle.plain.proofs.Flags.{lead_one, lead_low, lead_two, lead_three, lead_last_three, lead_four, lead_high}
 use Rattle.plain.proofs.known.lead.Goals as goal
+use Rattle.plain.proofs.known.lead.Goals.{in_default-via-then-b-lt194, in_default-via-else-b-lt194+else-b-lt224+else-b-lt237+else-b-lt240+else-b-lt244}
 
 pub owing-requires : goal.owing-requires
 owing-requires c = search rules
@@ -58,21 +60,21 @@ unfolding lead
 returns-in-0-to-127 c = c.owing-in-0-to-127.ensures ∙ sym (lead_one _ _ c.in-0-to-127.if-b-lt128-own.true)
 
 pub returns-in-194-to-223 : goal.returns-in-194-to-223
-unfolding lead
-returns-in-194-to-223 c = c.owing-in-194-to-223.ensures ∙ sym (lead_two _ _ c.if-b-lt194.false c.in-194-to-223.if-b-lt224-own.true)
+returns-in-194-to-223 c = c.owing-in-194-to-223.ensures ∙ sym (lead_two _ _ (omega arith) (omega arith))
 
 pub returns-in-225-to-236 : goal.returns-in-225-to-236
-unfolding lead
-returns-in-225-to-236 c = c.owing-in-225-to-236.ensures ∙ sym (lead_three _ _ c.if-b-lt224.false c.in-225-to-236.if-b-lt237-own.true c.in_default-1.rest.0.0.0.1)
+returns-in-225-to-236 c = c.owing-in-225-to-236.ensures ∙ sym (lead_three _ _ (omega arith) (omega arith) (λ e. omega arith))
 
 pub returns-in-238-to-239 : goal.returns-in-238-to-239
-unfolding lead
-returns-in-238-to-239 c = c.owing-in-238-to-239.ensures ∙ sym (lead_last_three _ _ c.if-b-lt237.false c.in-238-to-239.if-b-lt240-own.true c.in_default-1.rest.0.0.1)
+returns-in-238-to-239 c = c.owing-in-238-to-239.ensures ∙ sym (lead_last_three _ _ (omega arith) (omega arith) (λ e. omega arith))
 
 pub returns-in-241-to-243 : goal.returns-in-241-to-243
-unfolding lead
-returns-in-241-to-243 c = c.owing-in-241-to-243.ensures ∙ sym (lead_four _ _ c.if-b-lt240.false c.in-241-to-243.if-b-lt244-own.true c.in_default-1.rest.0.1)
+returns-in-241-to-243 c = c.owing-in-241-to-243.ensures ∙ sym (lead_four _ _ (omega arith) (omega arith) (λ e. omega arith))
 
 pub returns-in_default : goal.returns-in_default
-unfolding lead
-returns-in_default c = c.owing-in_default.ensures ∙ sym (⊎_elim (λ u. lead_low _ _ c.if-b-lt128.false u.taken) (λ u. lead_high _ _ u.4.left c.in_default-1.rest.1) c.in_default.branch)
+returns-in_default c =
+    c.owing-in_default.ensures
+    ∙ sym (elim c.in_default.branch [
+      | in_default-via-then-b-lt194 w ↦ lead_low _ _ (omega arith) (omega arith)
+      | in_default-via-else-b-lt194+else-b-lt224+else-b-lt237+else-b-lt240+else-b-lt244 w ↦ lead_high _ _ (omega arith) (λ e. omega arith)
+    ])

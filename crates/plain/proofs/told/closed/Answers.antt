@@ -6,6 +6,7 @@ use Rattle.plain.proofs.Flags.{chosen}
 use Rattle.plain.proofs.Parts.{ended}
 use Prim.Native.Nat.{◌-◌}
 use Rattle.plain.proofs.told.closed.Goals as goal
+use Rattle.plain.proofs.told.closed.Goals.{then-b, else-b}
 
 pub overflow_add-to : goal.overflow_add-to
 overflow_add-to c = search rules
@@ -31,4 +32,4 @@ returns-in-Bang c = simp (c.in-Bang.is, ← c.no_markup.ensures) c.stop.ensures
 
 pub returns-in_default : goal.returns-in_default
 unfolding closed_of
-returns-in_default c = simp (ended c.args.reader c.args.known c.args.last c.args.room c.args.b c.args.known.part c.in_default.in_default-own.keys2, ← (chosen _ _ _ _ (⊎_elim (λ u. inl (u.0.taken, u.1)) (λ u. inr (u.0.left, u.2)) c.if-b.branch)), ← c.behind.ensures) c.whole.ensures
+returns-in_default c = simp (ended c.args.reader c.args.known c.args.last c.args.room c.args.b c.args.known.part c.in_default.not-Bang, ← (chosen _ _ _ _ (elim c.if-b.branch [ then-b w ↦ inl (w.if-b.true, w.to-is) | else-b w ↦ inr (w.if-b.false, w.to-is) ])), ← c.behind.ensures) c.whole.ensures

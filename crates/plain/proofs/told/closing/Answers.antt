@@ -5,16 +5,13 @@ use Rattle.plain.specs.Told.{closing_of}
 use Rattle.plain.proofs.Flags.{chosen}
 use Prim.Native.Nat.{◌-◌}
 use Rattle.plain.proofs.told.closing.Goals as goal
+use Rattle.plain.proofs.told.closing.Goals.{then-trims, else-trims}
 
 pub inner-content-requires : goal.inner-content-requires
 inner-content-requires c = search rules
 
 pub refuse-requires : goal.refuse-requires
 refuse-requires c = search rules
-
-pub returns-then-depth-settings : goal.returns-then-depth-settings
-unfolding closing_of
-returns-then-depth-settings c = simp (← c.inner-content.ensures, ← (chosen _ _ _ _ (⊎_elim (λ u. inl (u.0.taken, u.1)) (λ u. inr (u.0.left, u.1)) c.if-trims.branch)), c.if-depth-settings.true) c.refuse.ensures
 
 pub fewer-requires : goal.fewer-requires
 fewer-requires c = search rules
@@ -31,13 +28,17 @@ size-requires c = search rules
 pub refuse-requires-then-depth-settings-2 : goal.refuse-requires-then-depth-settings-2
 refuse-requires-then-depth-settings-2 c = search rules
 
-pub returns-then-depth-settings-2 : goal.returns-then-depth-settings-2
-unfolding closing_of
-returns-then-depth-settings-2 c = simp (← c.inner-content.ensures, ← (chosen _ _ _ _ (⊎_elim (λ u. inl (u.0.taken, u.1)) (λ u. inr (u.0.left, u.1)) c.if-trims.branch)), c.if-depth-settings.false, ← c.fewer.ensures, ← c.with_depth-fewer.ensures, ← c.size-size.ensures, ← c.size.ensures, c.if-depth-settings-2.true) c.refuse-then-depth-settings-2.ensures
-
 pub tell-requires : goal.tell-requires
 tell-requires c = search rules
 
+pub returns-then-depth-settings : goal.returns-then-depth-settings
+unfolding closing_of
+returns-then-depth-settings c = simp (← c.inner-content.ensures, ← (chosen _ _ _ _ (elim c.if-trims.branch [ then-trims w ↦ inl (w.if-trims.true, w.to-is) | else-trims w ↦ inr (w.if-trims.false, w.to-is) ])), c.if-depth-settings.true) c.refuse.ensures
+
+pub returns-then-depth-settings-2 : goal.returns-then-depth-settings-2
+unfolding closing_of
+returns-then-depth-settings-2 c = simp (← c.inner-content.ensures, ← (chosen _ _ _ _ (elim c.if-trims.branch [ then-trims w ↦ inl (w.if-trims.true, w.to-is) | else-trims w ↦ inr (w.if-trims.false, w.to-is) ])), c.if-depth-settings.false, ← c.fewer.ensures, ← c.with_depth-fewer.ensures, ← c.size-size.ensures, ← c.size.ensures, c.if-depth-settings-2.true) c.refuse-then-depth-settings-2.ensures
+
 pub returns : goal.returns
 unfolding closing_of
-returns c = simp (← c.inner-content.ensures, ← (chosen _ _ _ _ (⊎_elim (λ u. inl (u.0.taken, u.1)) (λ u. inr (u.0.left, u.1)) c.if-trims.branch)), c.if-depth-settings.false, ← c.fewer.ensures, ← c.with_depth-fewer.ensures, ← c.size-size.ensures, ← c.size.ensures, c.if-depth-settings-2.false) c.tell.ensures
+returns c = simp (← c.inner-content.ensures, ← (chosen _ _ _ _ (elim c.if-trims.branch [ then-trims w ↦ inl (w.if-trims.true, w.to-is) | else-trims w ↦ inr (w.if-trims.false, w.to-is) ])), c.if-depth-settings.false, ← c.fewer.ensures, ← c.with_depth-fewer.ensures, ← c.size-size.ensures, ← c.size.ensures, c.if-depth-settings-2.false) c.tell.ensures

@@ -5,6 +5,7 @@ use Rattle.plain.specs.Told.{comment_of}
 use Prim.Native.Nat.{◌-◌}
 use Rattle.plain.proofs.Flags.{one_less}
 use Rattle.plain.proofs.told.comment.Goals as goal
+use Rattle.plain.proofs.told.comment.Goals.{then-second-gt0, else-second-gt0}
 
 pub inner-content-requires : goal.inner-content-requires
 inner-content-requires c = search rules
@@ -22,13 +23,13 @@ returns-then-not-known c = simp c.if-not-known.true c.stop.ensures
 pub refuse-requires : goal.refuse-requires
 refuse-requires c = search rules
 
-pub returns-then-reader-second : goal.returns-then-reader-second
-unfolding comment_of
-returns-then-reader-second c = simp (c.if-not-known.false, ← c.inner-content.ensures, ← (one_less _ _ (⊎_elim (λ u. inl (u.0.taken, u.1)) (λ u. inr (u.0.left, u.1)) c.if-second-gt0.branch)), c.if-reader-second.true) c.refuse.ensures
-
 pub tell-requires : goal.tell-requires
 tell-requires c = search rules
 
 pub returns : goal.returns
 unfolding comment_of
 returns c = simp (c.if-not-known.false, ← c.inner-content.ensures, c.if-reader-second.false) c.tell.ensures
+
+pub returns-then-reader-second : goal.returns-then-reader-second
+unfolding comment_of
+returns-then-reader-second c = simp (c.if-not-known.false, ← c.inner-content.ensures, ← (one_less _ _ (elim c.if-second-gt0.branch [ then-second-gt0 w ↦ inl (w.if-second-gt0.true, w.first-is) | else-second-gt0 w ↦ inr (w.if-second-gt0.false, w.first-is) ])), c.if-reader-second.true) c.refuse.ensures

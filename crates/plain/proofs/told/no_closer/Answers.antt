@@ -36,12 +36,12 @@ returns-else-xml c = simp (c.in-Instruction.is, c.if-xml.false, ← c.size.ensur
 
 pub returns-in-39 : goal.returns-in-39
 unfolding no_closer in_tag
-returns-in-39 c = simp (in_tag_lem c.args.known c.args.known.part c.in_default.in_default-own.keys4, c.in-39.is)
+returns-in-39 c = simp (in_tag_lem c.args.known c.args.known.part c.in_default.not-Comment c.in_default.not-CData c.in_default.not-Instruction, c.in-39.is)
 
 pub returns-in-34 : goal.returns-in-34
 unfolding no_closer in_tag
-returns-in-34 c = simp (in_tag_lem c.args.known c.args.known.part c.in_default.in_default-own.keys4, c.in-34.is)
+returns-in-34 c = simp (in_tag_lem c.args.known c.args.known.part c.in_default.not-Comment c.in_default.not-CData c.in_default.not-Instruction, c.in-34.is)
 
 pub returns-in_default-quote : goal.returns-in_default-quote
 unfolding no_closer in_tag
-returns-in_default-quote c = simp (in_tag_lem c.args.known c.args.known.part c.in_default.in_default-own.keys4, ne_eqb _ _ c.in_default-quote.in_default-quote-own.rest.0.1, ne_eqb _ _ c.in_default-quote.in_default-quote-own.rest.1)
+returns-in_default-quote c = simp (in_tag_lem c.args.known c.args.known.part c.in_default.not-Comment c.in_default.not-CData c.in_default.not-Instruction, ne_eqb _ _ c.in_default-quote.in_default-quote-own.rest.0.1, ne_eqb _ _ c.in_default-quote.in_default-quote-own.rest.1)

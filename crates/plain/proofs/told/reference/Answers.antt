@@ -24,13 +24,13 @@ returns-in-InsideText c = by_true _ _ _ _ (ap is_text c.in-InsideText.is) (simp 
 pub tell-requires-then-reader : goal.tell-requires-then-reader
 tell-requires-then-reader c = search rules
 
-pub returns-then-reader : goal.returns-then-reader
-unfolding reference_of
-returns-then-reader c = simp (not_text c.args.next c.in_default.in_default-own.keys2, c.if-reader.true) c.tell-then-reader.ensures
-
 pub refuse-requires : goal.refuse-requires
 refuse-requires c = search rules
 
+pub returns-then-reader : goal.returns-then-reader
+unfolding reference_of
+returns-then-reader c = simp (not_text c.args.next c.in_default.not-InsideText, c.if-reader.true) c.tell-then-reader.ensures
+
 pub returns : goal.returns
 unfolding reference_of
-returns c = simp (not_text c.args.next c.in_default.in_default-own.keys2, c.if-reader.false) c.refuse.ensures
+returns c = simp (not_text c.args.next c.in_default.not-InsideText, c.if-reader.false) c.refuse.ensures

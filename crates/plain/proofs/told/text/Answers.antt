@@ -9,6 +9,7 @@ use Rattle.plain.proofs.Parts.{not_done}
 use Rattle.plain.specs.Told.{is_done}
 use Prim.Native.Nat.{◌-◌}
 use Rattle.plain.proofs.told.text.Goals as goal
+use Rattle.plain.proofs.told.text.Goals.{then-reader, else-reader, in-Done+else-to-from, in_default}
 
 pub enum_told-1 : goal.enum_told-1
 enum_told-1 c = search rules
@@ -16,13 +17,18 @@ enum_told-1 c = search rules
 pub end-requires : goal.end-requires
 end-requires c = search rules
 
-pub returns-then-to-from : goal.returns-then-to-from
-unfolding text_of
-returns-then-to-from c = simp (← (chosen _ _ _ _ (⊎_elim (λ u. inl (u.0.taken, u.1)) (λ u. inr (u.0.left, u.1)) c.if-reader.branch)), ap is_done c.in-Done.is, le-leb _ _ c.if-to-from.true) c.end.ensures
-
 pub tell-requires : goal.tell-requires
 tell-requires c = search rules
 
+pub returns-then-to-from : goal.returns-then-to-from
+unfolding text_of
+returns-then-to-from c = simp (← (chosen _ _ _ _ (elim c.if-reader.branch [ then-reader w ↦ inl (w.if-reader.true, w.to-is) | else-reader w ↦ inr (w.if-reader.false, w.to-is) ])), ap is_done c.in-Done.is, le-leb _ _ c.if-to-from.true) c.end.ensures
+
 pub returns : goal.returns
 unfolding text_of
-returns c = simp (← (chosen _ _ _ _ (⊎_elim (λ u. inl (u.0.taken, u.1)) (λ u. inr (u.0.left, u.1)) c.if-reader.branch))) (⊎_elim (λ u. simp (lt-leb _ _ u.2.left, ap is_done u.1.given.1) c.tell.ensures) (λ u. simp (not_done c.args.next u.keys2) c.tell.ensures) c.match-next.branch)
+returns c =
+    simp (← (chosen _ _ _ _ (elim c.if-reader.branch [ then-reader w ↦ inl (w.if-reader.true, w.to-is) | else-reader w ↦ inr (w.if-reader.false, w.to-is) ])))
+    (elim c.match-next.branch [
+      | in-Done+else-to-from w ↦ simp (lt-leb _ _ w.if-to-from.false, ap is_done w.in-Done.is) c.tell.ensures
+      | in_default w ↦ simp (not_done c.args.next w.in_default.not-Done) c.tell.ensures
+    ])

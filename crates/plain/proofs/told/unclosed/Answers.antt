@@ -63,4 +63,6 @@ returns-in-Bang c = simp c.in-Bang.is c.stop-in-Bang.ensures
 
 pub returns-in_default : goal.returns-in_default
 unfolding unclosed_of
-returns-in_default c = simp (no_end c.args.reader c.args.known c.args.last c.args.room c.args.known.part c.in_default.in_default-own.keys6, ← c.no_closer.ensures) c.stop-in_default.ensures
+returns-in_default c =
+    let d = c.in_default in
+    simp (no_end c.args.reader c.args.known c.args.last c.args.room c.args.known.part d.not-Nothing d.not-Text d.not-Reference d.not-Opened d.not-Bang, ← c.no_closer.ensures) c.stop-in_default.ensures

@@ -88,4 +88,6 @@ returns-in-Closing c = simp (eq-eqb _ _ c.if-letters-ne0.false, c.in-Closing.is)
 
 pub returns-in_default : goal.returns-in_default
 unfolding whole_of
-returns-in_default c = simp (eq-eqb _ _ c.if-letters-ne0.false, becomes_tag c.args.reader c.args.known c.args.last c.args.room c.args.piece c.args.next c.args.known.part c.in_default.in_default-own.keys8) c.opening.ensures
+returns-in_default c =
+    let d = c.in_default in
+    simp (eq-eqb _ _ c.if-letters-ne0.false, becomes_tag c.args.reader c.args.known c.args.last c.args.room c.args.piece c.args.next c.args.known.part d.not-Nothing d.not-Text d.not-Reference d.not-Comment d.not-CData d.not-Instruction d.not-Closing) c.opening.ensures

@@ -7,6 +7,3 @@ use Rattle.plain.proofs.known.Known.name_len.Goals as goal
 
 pub size-requires : goal.size-requires
 size-requires c = search rules
-
-pub returns : goal.returns
-returns c = simp (← chosen_less _ _ _ _ _ (⊎_elim (λ u. inl (u.0.taken, u.1)) (λ u. inr (u.0.left, u.1)) c.if-self-content.branch)) c.size.ensures

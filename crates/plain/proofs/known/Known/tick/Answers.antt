@@ -6,6 +6,7 @@ use Rattle.plain.proofs.Flags.{chosen}
 use Prim.Native.Nat.{◌-◌}
 use Rattle.plain.proofs.Ticks.{tick_made}
 use Rattle.plain.proofs.known.Known.tick.Goals as goal
+use Rattle.plain.proofs.known.Known.tick.Goals.{then-white, else-white}
 
 pub size-size-requires : goal.size-size-requires
 size-size-requires c = search rules
@@ -54,4 +55,4 @@ pub reach-requires-3 : goal.reach-requires-3
 reach-requires-3 c = search rules
 
 pub returns : goal.returns
-returns c = tick_made _ _ _ _ _ _ _ _ _ _ _ _ _ _ _ c.byte_at.ensures c.size-size.ensures c.is_whitespace-white.ensures c.next.ensures c.tick.ensures (chosen _ _ _ _ (⊎_elim (λ u. inl (u.0.taken, u.1)) (λ u. inr (u.0.left, u.1)) c.if-white.branch)) c.reach.ensures c.next_quote.ensures c.opens.ensures c.reach-2.ensures c.reach-3.ensures c.if-mark-at.false
+returns c = tick_made _ _ _ _ _ _ _ _ _ _ _ _ _ _ _ c.byte_at.ensures c.size-size.ensures c.is_whitespace-white.ensures c.next.ensures c.tick.ensures (chosen _ _ _ _ (elim c.if-white.branch [ then-white w ↦ inl (w.if-white.true, w.result-is) | else-white w ↦ inr (w.if-white.false, w.result-is) ])) c.reach.ensures c.next_quote.ensures c.opens.ensures c.reach-2.ensures c.reach-3.ensures c.if-mark-at.false

@@ -1,7 +1,6 @@
 -- `next` meets its contract. Assumes nothing.
 use borrow.Author.Tests.{eq-eqb, ne_eqb}
 use borrow.Author.Rules.{rules}
-use Rattle.plain.proofs.Parts.{stays}
 use Prim.Native.Nat.{◌-◌}
 use Rattle.plain.proofs.known.Part.next.Goals as goal
 
@@ -40,6 +39,3 @@ returns-then-b-eq91 c = simp (c.in-Bang.is, eq-eqb _ _ c.if-b-eq91.true)
 
 pub returns-else-b-eq91 : goal.returns-else-b-eq91
 returns-else-b-eq91 c = simp (c.in-Bang.is, ne_eqb _ _ c.if-b-eq91.false)
-
-pub returns-in_default : goal.returns-in_default
-returns-in_default c = stays c.args.self _ c.in_default.in_default-own.keys4

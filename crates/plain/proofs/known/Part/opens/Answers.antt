@@ -1,6 +1,5 @@
 -- `opens` meets its contract. Assumes nothing.
 use borrow.Author.Rules.{rules}
-use Rattle.plain.proofs.Parts.{no_opener}
 use Prim.Native.Nat.{◌-◌}
 use Rattle.plain.proofs.known.Part.opens.Goals as goal
 
@@ -33,6 +32,3 @@ returns-in-CData c = simp c.in-CData.is c.goes-in-CData.ensures
 
 pub returns-in-Instruction : goal.returns-in-Instruction
 returns-in-Instruction c = simp (c.in-Instruction.is, ← c.goes-in-Instruction.ensures, ← c.is_whitespace.ensures)
-
-pub returns-in_default : goal.returns-in_default
-returns-in_default c = no_opener c.args.self _ _ c.in_default.in_default-own.keys4
