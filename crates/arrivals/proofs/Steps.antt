@@ -116,6 +116,7 @@ module _ (doc more : List ℕ) where
       by : Among text_ends (get_or doc p 0) → Unmarked
       by (inl l) = unmarked p lt l (omega arith) refl
       by (inr (inl a)) = unmarked p amp a (omega arith) refl
+      by (inr (inr x5)) = elim x5 [ ]
   ended_unmarked from (reference _ a _) = unmarked from amp a (omega arith) refl
   ended_unmarked from (tag _ l _ _ _ _) = unmarked from lt l (omega arith) refl
   ended_unmarked from (instruction _ l _ _) = unmarked from lt l (omega arith) refl
