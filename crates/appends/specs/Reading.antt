@@ -2,10 +2,9 @@
 use Rattle.std.specs.Prelude.{ℕ, zero, suc, ◌+◌, List, [], ◌∷◌, Bool, true, false, length, eqb}
 use Rattle.ground.specs.Choose.{pick, all_of}
 use Rattle.ground.specs.Equal.{same}
-use Rattle.state.specs.declared.answer.Kind.{Kind}
 use Rattle.state.specs.declared.answer.Answer.{Answer}
 use Rattle.state.specs.Settings.{defaults}
-use Rattle.state.specs.Values.{kind_number, values_of}
+use Rattle.state.specs.Values.{values_of}
 use Rattle.reader.specs.Names.{bytes}
 use Rattle.demands.specs.Answers.{is_eof, latest_is}
 use Rattle.demands.specs.Run.{World, said, call, run}

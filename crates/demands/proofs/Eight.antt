@@ -28,7 +28,7 @@ use Rattle.state.specs.declared.run.Phase.{Phase}
 use Rattle.state.specs.declared.run.Reader.{Reader}
 use Rattle.state.specs.declared.run.Step.{Step}
 use Rattle.state.specs.Limits.{capacity}
-use Rattle.state.specs.Place.{at, depth_of, size, span, inner}
+use Rattle.state.specs.Place.{at, depth_of, size, inner}
 use Rattle.state.specs.Values.{kind_number, values_of}
 use Rattle.state.specs.Make.{moved, with_depth, marked, told, ended, refused, stopped, refuses_end, ending, bad_state}
 use Rattle.state.proofs.Refused.{not_asked}
@@ -39,7 +39,6 @@ use Rattle.emit.specs.Question.{emit_question_mark}
 use Rattle.emit.specs.End.{closing_name, end_event, unmatched, differs, matched, emit_end, close_expanded_empty}
 use Rattle.emit.specs.Start.{slashed, opening, emit_start}
 use Rattle.reader.specs.declared.piece.Shape.{Shape}
-use Rattle.reader.specs.declared.piece.Piece.{Piece}
 use Rattle.reader.specs.declared.piece.Cut.{Cut}
 use Rattle.reader.specs.Names.{latest, written}
 use Rattle.reader.specs.Sound.{is_in_place, in_place_in, sound}

@@ -37,7 +37,6 @@ use Rattle.emit.specs.Question.{is_decl, question_event, emit_question_mark}
 use Rattle.emit.specs.End.{closing_name, end_event, unmatched, differs, matched, emit_end, close_expanded_empty}
 use Rattle.emit.specs.Start.{slashed, tag, opening, emit_start}
 use Rattle.reader.specs.declared.piece.Shape.{Shape}
-use Rattle.reader.specs.declared.piece.Piece.{Piece}
 use Rattle.reader.specs.declared.piece.Cut.{Cut}
 use Rattle.reader.specs.Names.{bytes, latest}
 use Rattle.reader.specs.Step.{emitted_as, emitted, checked, taken, step_text, step_in, step_phase, step}

@@ -1,14 +1,13 @@
 -- The last arm of a match, which has all cases that no other has: what the definition says of each of them. Assumes nothing.
 use Prim.Native.Nat.{ℕ}
 use mathlib.Core.Path.{◌≡◌, refl}
-use mathlib.Core.Bool.{true, false}
+use mathlib.Core.Bool.{false}
 use Rattle.state.specs.declared.place.Depth.{Depth}
 use Rattle.state.specs.declared.place.Span.{Span}
 use Rattle.state.specs.declared.run.Phase.{Phase}
 use Rattle.state.specs.declared.run.Reader.{Reader}
 use Rattle.plain.specs.declared.known.Part.{Part}
 use Rattle.plain.specs.declared.known.Known.{Known}
-use Rattle.plain.specs.Known.{next_part, opens}
 use Rattle.plain.specs.Told.{is_done, is_text, becomes, opening_of, in_tag, closer, no_closer, stop, read, unclosed_in, whole_of, closed_piece, behind, closed_in}
 
 -- ---- phases

@@ -4,7 +4,6 @@ use Rattle.ground.specs.Choose.{pick}
 use Rattle.ground.specs.Bytes.{amp, apos, bang, close_bracket, gt, hyphen, lt, open_bracket, question, quot, semicolon, slash}
 use Rattle.white.specs.White.{is_white}
 use Rattle.state.specs.declared.place.Span.{Span}
-use Rattle.state.specs.Place.{span, size}
 use Rattle.emit.specs.Bang.{comment_opener, cdata_opener}
 use Rattle.emit.specs.Question.{xml}
 use Rattle.reader.specs.Step.{bom}

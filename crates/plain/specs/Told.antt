@@ -4,7 +4,6 @@ use Rattle.ground.specs.Choose.{pick}
 use Rattle.ground.specs.Bytes.{amp, apos, lower_d, lt, quot, slash, upper_d}
 use Rattle.state.specs.declared.place.Depth.{Depth}
 use Rattle.state.specs.declared.place.Span.{Span}
-use Rattle.state.specs.declared.config.Config.{Config}
 use Rattle.state.specs.declared.answer.Kind.{Kind}
 use Rattle.state.specs.declared.answer.Error.{Error}
 use Rattle.state.specs.declared.run.Phase.{Phase}

@@ -2,7 +2,6 @@
 use Rattle.std.specs.Prelude.{ℕ}
 use Rattle.state.specs.declared.answer.Error.{Error}
 use Rattle.state.specs.Values.{numbered_of}
-use Rattle.rows.specs.declared.row.Row.{Row}
 use Rattle.rows.specs.declared.row.Given.{Given}
 use Rattle.rows.specs.declared.row.Filled.{Filled}
 

@@ -1,5 +1,4 @@
 -- `attribute_by` meets its contract. The invariant: reading comes to this place, the names before it are marked, and no place before it is `at`. Assumes nothing.
-use Prim.Native.Nat.{◌-◌}
 use Rattle.attributes.proofs.Walks.{goes}
 use Rattle.attributes.proofs.attribute_by.Goals as goal
 

@@ -1,5 +1,4 @@
 -- `either` meets its contract: each flag tells of its byte among those seen so far. Assumes nothing.
-use Prim.Native.Nat.{◌-◌}
 use Rattle.blocks.proofs.Flags.{flags}
 use Rattle.blocks.proofs.either.Goals as goal
 

@@ -1,5 +1,4 @@
 -- `least` meets its contract: the least place so far. Assumes nothing.
-use Prim.Native.Nat.{◌-◌}
 use Rattle.blocks.proofs.Places.{places}
 use Rattle.blocks.proofs.least.Goals as goal
 

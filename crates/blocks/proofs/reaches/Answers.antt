@@ -1,5 +1,4 @@
 -- `reaches` meets its contract: the flag tells of the bytes seen so far. Assumes nothing.
-use Prim.Native.Nat.{◌-◌}
 use Rattle.blocks.proofs.Flags.{flags}
 use Rattle.blocks.proofs.reaches.Goals as goal
 

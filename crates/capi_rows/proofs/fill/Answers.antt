@@ -1,6 +1,5 @@
 -- `fill` meets its contract. The invariant: the first i rows are filled. Assumes nothing.
 use borrow.Author.Rules.{rules}
-use Prim.Native.Nat.{◌-◌}
 use Rattle.capi_rows.proofs.Slots.{fills, row_more}
 use Rattle.capi_rows.proofs.fill.Goals as goal
 

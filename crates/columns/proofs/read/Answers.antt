@@ -1,6 +1,5 @@
 -- `read` meets its contract, and ends: fewer calls are left after each. The invariant: the loop has what i calls leave and tell, and the lent slices keep their
 -- lengths. Assumes nothing.
-use Prim.Native.Nat.{◌-◌}
 use Rattle.columns.proofs.Turns.{reads}
 use Rattle.columns.proofs.read.Goals as goal
 

@@ -1,5 +1,4 @@
 -- `alike` meets its contract. The invariant of both loops: the answer is that of comparing from i on. Assumes nothing.
-use Prim.Native.Nat.{◌-◌}
 use Rattle.ground.proofs.Eights.{alikes}
 use Rattle.ground.proofs.alike.Goals as goal
 

@@ -1,5 +1,4 @@
 -- `differ_8` meets its contract: the flag tells of the bytes seen so far. Assumes nothing.
-use Prim.Native.Nat.{◌-◌}
 use Rattle.ground.proofs.Eights.{alikes}
 use Rattle.ground.proofs.differ_8.Goals as goal
 

@@ -1,5 +1,4 @@
 -- `starts_with` meets its contract. The invariant: the comparison from the start on is the comparison from `at` and i on. Assumes nothing.
-use Prim.Native.Nat.{◌-◌}
 use Rattle.ground.proofs.Equal.{compares}
 use Rattle.ground.proofs.starts_with.Goals as goal
 

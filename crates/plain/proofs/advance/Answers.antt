@@ -1,6 +1,5 @@
 -- `advance` meets its contract. Assumes nothing.
 use borrow.Author.Rules.{rules}
-use Prim.Native.Nat.{◌-◌}
 use Rattle.plain.proofs.Calls.{name_fits, noted, kept}
 use Rattle.plain.proofs.Calls.{slots_there}
 use Rattle.plain.proofs.advance.Goals as goal

@@ -2,7 +2,6 @@
 use mathlib.Core.Path.{sym, ◌∙◌}
 use borrow.Author.Rules.{rules}
 use Rattle.reader.specs.Step.{step}
-use Prim.Native.Nat.{◌-◌}
 use Rattle.plain.proofs.Phases.{placed}
 use Rattle.reader.proofs.States.{sound_true}
 use Rattle.state.proofs.Room.{capacity_slots}

@@ -2,7 +2,6 @@
 use mathlib.Core.Path.{◌∙◌}
 use borrow.Author.Rules.{rules}
 use Rattle.reader.specs.Step.{step_phase}
-use Prim.Native.Nat.{◌-◌}
 use Rattle.plain.proofs.Phases.{first_readable, later_readable, reads_later, reads_first}
 use Rattle.plain.proofs.by_phase.Goals as goal
 

@@ -2,7 +2,6 @@
 use borrow.Author.Rules.{rules}
 use Rattle.reader.specs.Sound.{is_in_place}
 use Rattle.plain.proofs.Flags.{and_pick}
-use Prim.Native.Nat.{◌-◌}
 use Rattle.plain.proofs.in_place.Goals as goal
 
 pub enum_told-1 : goal.enum_told-1

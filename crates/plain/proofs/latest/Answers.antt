@@ -2,7 +2,6 @@
 use borrow.Author.Tests.{eq-eqb, ne_eqb}
 use borrow.Author.Rules.{rules}
 use Rattle.reader.specs.Names.{latest}
-use Prim.Native.Nat.{◌-◌}
 use Rattle.plain.proofs.latest.Goals as goal
 
 pub returns-then-depth-eq0 : goal.returns-then-depth-eq0

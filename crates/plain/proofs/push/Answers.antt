@@ -1,7 +1,6 @@
 -- `push` meets its contract. Assumes nothing.
 use mathlib.Core.Path.{refl}
 use borrow.Author.Rules.{rules}
-use Prim.Native.Nat.{◌-◌}
 use Rattle.reader.specs.Names.{pushed}
 use Rattle.plain.proofs.push.Goals as goal
 

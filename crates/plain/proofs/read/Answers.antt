@@ -1,5 +1,4 @@
 -- `read` meets its contract. Assumes nothing.
-use Prim.Native.Nat.{◌-◌}
 use Rattle.plain.proofs.Loop.{goings}
 use Rattle.plain.proofs.read.Goals as goal
 

@@ -2,7 +2,6 @@
 use borrow.Author.Tests.{le-ltb, lt-ltb}
 use borrow.Author.Rules.{rules}
 use Rattle.plain.specs.Known.{same_of}
-use Prim.Native.Nat.{◌-◌}
 use Rattle.plain.proofs.same.Goals as goal
 
 pub size-size-requires : goal.size-size-requires

@@ -1,13 +1,12 @@
 -- What the plan says of each record, and a record more. Assumes nothing.
-use Rattle.std.proofs.Common.{◌≡◌, min, ℕ, ◌+◌, ◌<◌, ◌≤◌, length, arith, refl, sym, ap, ◌∙◌}
+use Rattle.std.proofs.Common.{◌≡◌, ℕ, ◌<◌, length, arith, sym, ap, ◌∙◌}
 use mathlib.Core.List.{List}
 use lib.ListN.{set}
-use Rattle.state.specs.Place.{depth_of}
 use Rattle.rows.specs.declared.row.Given.{Given}
 use Rattle.rows.specs.declared.row.Row.{Row}
 use Rattle.rows.specs.Answers.{count_of}
-use Rattle.rows.specs.Rows.{row_at, row_of, plan_of, filled_with}
-use Rattle.rows.proofs.Lists.{plan_gives, plan_fits, filled_more, filled_length, filled_none}
+use Rattle.rows.specs.Rows.{row_at, plan_of, filled_with}
+use Rattle.rows.proofs.Lists.{plan_gives, plan_fits, filled_more, filled_none}
 use Rattle.rows.proofs.open_rows.Goals as goal
 use Rattle.rows.proofs.open_rows.Goals.{in-Row, in_default}
 

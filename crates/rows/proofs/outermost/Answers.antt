@@ -1,7 +1,5 @@
 -- A list of eight, filled. Assumes nothing.
 use Rattle.std.proofs.Common.{◌∙◌, ap}
-use mathlib.Core.List.{List}
-use Rattle.rows.specs.declared.row.Row.{Row}
 use Rattle.rows.specs.declared.row.Filled.{Filled}
 use Rattle.rows.specs.Answers.{count_of}
 use Rattle.rows.specs.Rows.{outermost_of, filled_with, no_rows}

@@ -1,5 +1,4 @@
 -- `plan` meets its contract. The invariant: the first i names are in order. Assumes nothing.
-use Prim.Native.Nat.{◌-◌}
 use Rattle.rows.proofs.Records.{plans}
 use Rattle.rows.proofs.plan.Goals as goal
 

@@ -1,6 +1,5 @@
 -- `tally` meets its contract, and ends: fewer calls are left after each. The invariant: the loop has what i calls leave, and the stack keeps its length.
 -- Assumes nothing.
-use Prim.Native.Nat.{◌-◌}
 use Rattle.tally.proofs.Calls.{call_turns}
 use Rattle.tally.proofs.tally.Goals as goal
 

@@ -1,5 +1,4 @@
 -- `by_chars` meets its contract. The invariant: the answer is that of the check from i on. Assumes nothing.
-use Prim.Native.Nat.{◌-◌}
 use Rattle.utf8.proofs.Ascii.{ascii_turns}
 use Rattle.utf8.proofs.by_chars.Goals as goal
 

@@ -1,5 +1,4 @@
 -- `check_all` meets its contract. The invariant: the answer is that of the check from i on. Assumes nothing.
-use Prim.Native.Nat.{◌-◌}
 use Rattle.utf8.proofs.Ascii.{ascii_turns}
 use Rattle.utf8.proofs.check_all.Goals as goal
 

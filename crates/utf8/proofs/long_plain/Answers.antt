@@ -1,5 +1,4 @@
 -- `long_plain` meets its contract: so far the bytes are ASCII. Assumes nothing.
-use Prim.Native.Nat.{◌-◌}
 use Rattle.utf8.proofs.Ascii.{ascii_turns}
 use Rattle.utf8.proofs.long_plain.Goals as goal
 

@@ -1,5 +1,4 @@
 -- `past_ascii` meets its contract: so far the bytes are ASCII. Assumes nothing.
-use Prim.Native.Nat.{◌-◌}
 use Rattle.utf8.proofs.Ascii.{ascii_turns}
 use Rattle.utf8.proofs.past_ascii.Goals as goal
 

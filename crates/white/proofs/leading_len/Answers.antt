@@ -1,5 +1,4 @@
 -- `leading_len` meets its contract. The invariant of both loops: the answer is i and the answer for what is left at i. Assumes nothing.
-use Prim.Native.Nat.{◌-◌}
 use borrow.Author.Rules.{rules}
 use Rattle.white.proofs.Runs.{lead_start, lead_fits, lead_less, lead_turn, lead_here}
 use Rattle.white.proofs.leading_len.Goals as goal

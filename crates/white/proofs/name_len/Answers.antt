@@ -1,5 +1,4 @@
 -- `name_len` meets its contract. The invariant: the answer is i and the answer for what is left at i. Assumes nothing.
-use Prim.Native.Nat.{◌-◌}
 use Rattle.white.specs.White.{is_white}
 use Rattle.white.proofs.Runs.{run_past, run_here, run_turn, until_turns}
 use Rattle.white.proofs.name_len.Goals as goal

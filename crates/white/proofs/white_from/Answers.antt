@@ -1,5 +1,4 @@
 -- `white_from` meets its contract. The invariant: the flag tells whether the first k bytes are white space. Assumes nothing.
-use Prim.Native.Nat.{◌-◌}
 use Rattle.white.proofs.Runs.{flag_turns}
 use Rattle.white.proofs.white_from.Goals as goal
 

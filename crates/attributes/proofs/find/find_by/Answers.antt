@@ -1,5 +1,4 @@
 -- `find_by` meets its contract. The invariant: reading comes to this place, the names before it are marked, and no answer before it ends the search. Assumes nothing.
-use Prim.Native.Nat.{◌-◌}
 use Rattle.attributes.proofs.Walks.{looks}
 use Rattle.attributes.proofs.find.find_by.Goals as goal
 

@@ -1,5 +1,4 @@
 -- `mark_of` meets its contract. The invariant: what is mixed of the whole name is what is mixed from here on. Assumes nothing.
-use Prim.Native.Nat.{◌-◌}
 use Rattle.attributes.proofs.Mixed.{mark_turns}
 use Rattle.attributes.proofs.marks.mark_of.Goals as goal
 

@@ -1,5 +1,4 @@
 -- `name_end` meets its contract. The invariant: the answer is i and the answer for what is left at i. Assumes nothing.
-use Prim.Native.Nat.{◌-◌}
 use Rattle.white.proofs.Runs.{run_past, run_here, run_turn}
 use Rattle.attributes.specs.Grammar.{ends_name}
 use Rattle.attributes.proofs.Bytes.{name_turns}

@@ -1,5 +1,4 @@
 -- `use_of` meets its contract. The invariant: if reading comes to `at`, it comes to i before, and has not met the name. Assumes nothing.
-use Prim.Native.Nat.{◌-◌}
 use Rattle.attributes.proofs.Turns.{pass_turn, uses}
 use Rattle.attributes.proofs.used.use_of.Goals as goal
 

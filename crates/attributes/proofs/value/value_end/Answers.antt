@@ -1,5 +1,4 @@
 -- `value_end` meets its contract. The invariant: the answer is i and the answer for what is left at i. Assumes nothing.
-use Prim.Native.Nat.{◌-◌}
 use Rattle.attributes.proofs.Bytes.{value_turns}
 use Rattle.attributes.proofs.value.value_end.Goals as goal
 

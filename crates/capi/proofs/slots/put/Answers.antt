@@ -1,5 +1,4 @@
 -- `put` meets its contract, and ends: fewer numbers are left after each. The invariant: i numbers are written. Assumes nothing.
-use Prim.Native.Nat.{◌-◌}
 use Rattle.capi.proofs.Puts.{put_turns}
 use Rattle.capi.proofs.slots.put.Goals as goal
 

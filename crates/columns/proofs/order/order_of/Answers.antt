@@ -1,5 +1,4 @@
 -- `order_of` meets its contract, and ends: fewer times are left after each. The invariant: what is left to look at decides. Assumes nothing.
-use Prim.Native.Nat.{◌-◌}
 use Rattle.columns.proofs.Orders.{order_turns}
 use Rattle.columns.proofs.order.order_of.Goals as goal
 

@@ -1,5 +1,4 @@
 -- `number` meets its contract. The invariant: the number of all digits is that of those from here on, behind the value so far. Assumes nothing.
-use Prim.Native.Nat.{◌-◌}
 use Rattle.escape.proofs.Numbers.{numbers}
 use Rattle.escape.proofs.reference.number.Goals as goal
 

@@ -1,5 +1,4 @@
 -- `copy` meets its contract. The invariant: the first k bytes are copied. Assumes nothing.
-use Prim.Native.Nat.{◌-◌}
 use Rattle.ground.proofs.Copies.{copies}
 use Rattle.escape.proofs.text.copy.Goals as goal
 

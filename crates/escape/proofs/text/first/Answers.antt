@@ -1,5 +1,4 @@
 -- `first` meets its contract. The invariant: the place is i and as many bytes more as stand before it from there on. Assumes nothing.
-use Prim.Native.Nat.{◌-◌}
 use Rattle.escape.proofs.Firsts.{firsts}
 use Rattle.escape.proofs.text.first.Goals as goal
 

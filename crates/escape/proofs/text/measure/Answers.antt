@@ -1,5 +1,4 @@
 -- `measure` meets its contract. The invariant: the answer is that of the text from here on, with the bytes counted so far. Assumes nothing.
-use Prim.Native.Nat.{◌-◌}
 use borrow.Author.Rules.{rules}
 use Rattle.escape.proofs.Measures.{character_on, measures}
 use Rattle.escape.proofs.text.measure.Goals as goal

@@ -1,5 +1,4 @@
 -- `plain_end` meets its contract. The invariant: the place is i and as many bytes more as stand before it from there on. Assumes nothing.
-use Prim.Native.Nat.{◌-◌}
 use Rattle.escape.proofs.Firsts.{blocks}
 use Rattle.escape.proofs.text.plain_end.Goals as goal
 

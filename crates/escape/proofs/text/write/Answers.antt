@@ -1,5 +1,4 @@
 -- `write` meets its contract. The invariant: what is to be left is what is in the buffer, with the bytes of the text from here on over it. Assumes nothing.
-use Prim.Native.Nat.{◌-◌}
 use borrow.Author.Rules.{rules}
 use Rattle.escape.proofs.Measures.{first_after, first_is}
 use Rattle.escape.proofs.Writes.{write_start, writing_fits, writing_ends, plain_adds, plain_lent, plain_written, never_refused, found_less, found_adds, found_written}

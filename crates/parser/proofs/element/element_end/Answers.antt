@@ -1,5 +1,4 @@
 -- `element_end` meets its contract. The invariants: the scan from `from` on is the scan from i on in the state of the loop. Assumes nothing.
-use Prim.Native.Nat.{◌-◌}
 use Rattle.parser.proofs.Passed.{tag_passes}
 use Rattle.parser.proofs.element.element_end.Goals as goal
 

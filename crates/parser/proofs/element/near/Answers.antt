@@ -1,5 +1,4 @@
 -- `near` meets its contract: so far it has passed bytes that are not the quote. Assumes nothing.
-use Prim.Native.Nat.{◌-◌}
 use Rattle.parser.proofs.Passed.{near_turns}
 use Rattle.parser.proofs.element.near.Goals as goal
 

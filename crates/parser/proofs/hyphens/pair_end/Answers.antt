@@ -1,5 +1,4 @@
 -- `pair_end` meets its contract. The invariant: the scan from `from` on is the scan from i on in the state `before`. Assumes nothing.
-use Prim.Native.Nat.{◌-◌}
 use Rattle.parser.proofs.Turns.{pair_turns}
 use Rattle.parser.proofs.hyphens.pair_end.Goals as goal
 

@@ -1,5 +1,4 @@
 -- `marks_from` meets its contract. The invariant: the scan from `from` on is the scan from i on with `seen` marks just before. Assumes nothing.
-use Prim.Native.Nat.{◌-◌}
 use Rattle.parser.proofs.Passed.{mark_passes}
 use Rattle.parser.proofs.marks.marks_from.Goals as goal
 

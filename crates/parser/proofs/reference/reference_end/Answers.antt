@@ -1,5 +1,4 @@
 -- `reference_end` meets its contract. The invariant: the scan from the start on is the scan from i on. Assumes nothing.
-use Prim.Native.Nat.{◌-◌}
 use Rattle.parser.proofs.Turns.{first_turns}
 use Rattle.parser.proofs.reference.reference_end.Goals as goal
 

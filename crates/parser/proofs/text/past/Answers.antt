@@ -1,5 +1,4 @@
 -- `past` meets its contract: so far it has passed bytes that are neither. Assumes nothing.
-use Prim.Native.Nat.{◌-◌}
 use Rattle.parser.proofs.Passed.{text_passes}
 use Rattle.parser.proofs.text.past.Goals as goal
 

@@ -1,5 +1,4 @@
 -- `text_end` meets its contract. The invariant: the scan from the start on is the scan from i on. Assumes nothing.
-use Prim.Native.Nat.{◌-◌}
 use Rattle.parser.proofs.Passed.{text_passes}
 use Rattle.parser.proofs.text.text_end.Goals as goal
 

@@ -1,5 +1,4 @@
 -- `seen_end` meets its contract. The invariant: the scan from `from` on is the scan from i on in the state of the loop. Assumes nothing.
-use Prim.Native.Nat.{◌-◌}
 use Rattle.pieces.proofs.Turns.{marks_turns}
 use Rattle.pieces.proofs.marked.seen_end.Goals as goal
 

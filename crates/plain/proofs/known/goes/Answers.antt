@@ -1,7 +1,6 @@
 -- `goes` meets its contract. Assumes nothing.
 use borrow.Author.Rules.{rules}
 use Rattle.plain.specs.Known.{goes}
-use Prim.Native.Nat.{◌-◌}
 use Rattle.plain.specs.Known.{goes}
 use Rattle.plain.proofs.known.goes.Goals as goal
 

@@ -1,10 +1,8 @@
 -- `lead` meets its contract. Assumes nothing.
 use mathlib.Core.Path.{sym, ◌∙◌}
-use mathlib.Core.Logic.{⊎_elim}
 use borrow.Author.Rules.{rules}
 use native.Mathlib.Omega.{arith}
 use Rattle.plain.specs.Letters.{lead}
-use Prim.Native.Nat.{◌-◌}
 use Rattle.plain.proofs.Flags.{lead_one, lead_low, lead_two, lead_three, lead_last_three, lead_four, lead_high}
 use Rattle.plain.proofs.known.lead.Goals as goal
 use Rattle.plain.proofs.known.lead.Goals.{in_default-via-then-b-lt194, in_default-via-else-b-lt194+else-b-lt224+else-b-lt237+else-b-lt240+else-b-lt244}

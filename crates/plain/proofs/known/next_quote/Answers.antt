@@ -1,7 +1,6 @@
 -- `next_quote` meets its contract. Assumes nothing.
 use Rattle.plain.specs.Known.{next_quote}
 use Rattle.plain.proofs.Flags.{flags}
-use Prim.Native.Nat.{◌-◌}
 use Rattle.plain.proofs.known.next_quote.Goals as goal
 
 pub returns-then-b : goal.returns-then-b

@@ -2,7 +2,6 @@
 use borrow.Author.Rules.{rules}
 use Rattle.plain.specs.Known.{reach}
 use Rattle.plain.proofs.Flags.{flags}
-use Prim.Native.Nat.{◌-◌}
 use Rattle.plain.proofs.known.reach.Goals as goal
 
 pub overflow_add-result : goal.overflow_add-result

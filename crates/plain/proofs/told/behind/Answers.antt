@@ -1,7 +1,6 @@
 -- `behind` meets its contract. Assumes nothing.
 use Rattle.plain.specs.Told.{behind}
 use Rattle.plain.proofs.Flags.{flags}
-use Prim.Native.Nat.{◌-◌}
 use Rattle.plain.proofs.told.behind.Goals as goal
 
 pub returns-in-60 : goal.returns-in-60

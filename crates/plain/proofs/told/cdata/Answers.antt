@@ -1,7 +1,6 @@
 -- `cdata` meets its contract. Assumes nothing.
 use borrow.Author.Rules.{rules}
 use Rattle.plain.specs.Told.{cdata_of}
-use Prim.Native.Nat.{◌-◌}
 use Rattle.plain.proofs.told.cdata.Goals as goal
 
 pub stop-requires : goal.stop-requires

@@ -2,7 +2,6 @@
 use borrow.Author.Rules.{rules}
 use Rattle.emit.specs.End.{close_expanded_empty, end_event}
 use Rattle.plain.specs.Told.{tell}
-use Prim.Native.Nat.{◌-◌}
 use Rattle.plain.proofs.told.close_empty.Goals as goal
 
 pub fewer-requires : goal.fewer-requires

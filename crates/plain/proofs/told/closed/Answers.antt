@@ -1,10 +1,9 @@
 -- `closed` meets its contract. Assumes nothing.
-use mathlib.Core.Logic.{inl, inr, ⊎_elim}
+use mathlib.Core.Logic.{inl, inr}
 use borrow.Author.Rules.{rules}
 use Rattle.plain.specs.Told.{closed_of}
 use Rattle.plain.proofs.Flags.{chosen}
 use Rattle.plain.proofs.Parts.{ended}
-use Prim.Native.Nat.{◌-◌}
 use Rattle.plain.proofs.told.closed.Goals as goal
 use Rattle.plain.proofs.told.closed.Goals.{then-b, else-b}
 

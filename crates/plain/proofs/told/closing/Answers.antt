@@ -1,9 +1,8 @@
 -- `closing` meets its contract. Assumes nothing.
-use mathlib.Core.Logic.{inl, inr, ⊎_elim}
+use mathlib.Core.Logic.{inl, inr}
 use borrow.Author.Rules.{rules}
 use Rattle.plain.specs.Told.{closing_of}
 use Rattle.plain.proofs.Flags.{chosen}
-use Prim.Native.Nat.{◌-◌}
 use Rattle.plain.proofs.told.closing.Goals as goal
 use Rattle.plain.proofs.told.closing.Goals.{then-trims, else-trims}
 

@@ -1,8 +1,7 @@
 -- `comment` meets its contract. Assumes nothing.
-use mathlib.Core.Logic.{inl, inr, ⊎_elim}
+use mathlib.Core.Logic.{inl, inr}
 use borrow.Author.Rules.{rules}
 use Rattle.plain.specs.Told.{comment_of}
-use Prim.Native.Nat.{◌-◌}
 use Rattle.plain.proofs.Flags.{one_less}
 use Rattle.plain.proofs.told.comment.Goals as goal
 use Rattle.plain.proofs.told.comment.Goals.{then-second-gt0, else-second-gt0}

@@ -2,7 +2,6 @@
 use borrow.Author.Tests.{le-ltb, lt-ltb}
 use borrow.Author.Rules.{rules}
 use Rattle.plain.specs.Told.{instruction_of}
-use Prim.Native.Nat.{◌-◌}
 use Rattle.plain.proofs.told.instruction.Goals as goal
 
 pub inner-content-requires : goal.inner-content-requires

@@ -3,7 +3,6 @@ use borrow.Author.Tests.{ne_eqb}
 use borrow.Author.Rules.{rules}
 use Rattle.plain.specs.Told.{in_tag, no_closer}
 use Rattle.plain.proofs.Parts.{in_tag_lem}
-use Prim.Native.Nat.{◌-◌}
 use Rattle.plain.proofs.told.no_closer.Goals as goal
 
 pub size-requires : goal.size-requires

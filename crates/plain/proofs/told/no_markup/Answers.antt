@@ -1,7 +1,6 @@
 -- `no_markup` meets its contract. Assumes nothing.
 use Rattle.plain.specs.Told.{no_markup}
 use Rattle.plain.proofs.Flags.{flags}
-use Prim.Native.Nat.{◌-◌}
 use Rattle.plain.proofs.told.no_markup.Goals as goal
 
 pub returns-then-b : goal.returns-then-b

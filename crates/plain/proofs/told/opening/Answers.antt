@@ -1,11 +1,10 @@
 -- `opening` meets its contract. Assumes nothing.
-use mathlib.Core.Logic.{inl, inr, ⊎_elim}
+use mathlib.Core.Logic.{inl, inr}
 use borrow.Author.Tests.{le-leb, lt-leb}
 use borrow.Author.Tests.{eq-eqb, ne_eqb}
 use borrow.Author.Rules.{rules}
 use Rattle.plain.specs.Told.{opening_of}
 use Rattle.plain.proofs.Flags.{chosen}
-use Prim.Native.Nat.{◌-◌}
 use Rattle.plain.proofs.told.opening.Goals as goal
 use Rattle.plain.proofs.told.opening.Goals.{then-slashed, else-slashed, then-slashed-2, else-slashed-2}
 

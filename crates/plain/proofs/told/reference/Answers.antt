@@ -5,7 +5,6 @@ use Rattle.plain.specs.Told.{reference_of}
 use Rattle.plain.proofs.Parts.{not_text}
 use Rattle.ground.proofs.Choices.{by_true}
 use Rattle.plain.specs.Told.{is_text}
-use Prim.Native.Nat.{◌-◌}
 use Rattle.plain.proofs.told.reference.Goals as goal
 
 pub enum_told-1 : goal.enum_told-1

@@ -1,7 +1,6 @@
 -- `stop` meets its contract. Assumes nothing.
 use borrow.Author.Rules.{rules}
 use Rattle.plain.specs.Told.{stop}
-use Prim.Native.Nat.{◌-◌}
 use Rattle.plain.proofs.told.stop.Goals as goal
 
 pub stop-requires : goal.stop-requires

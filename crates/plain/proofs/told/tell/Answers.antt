@@ -1,7 +1,6 @@
 -- `tell` meets its contract. Assumes nothing.
 use borrow.Author.Rules.{rules}
 use Rattle.plain.specs.Told.{tell}
-use Prim.Native.Nat.{◌-◌}
 use Rattle.plain.proofs.told.tell.Goals as goal
 
 pub event-requires : goal.event-requires

@@ -1,13 +1,12 @@
 -- `text` meets its contract. Assumes nothing.
 use mathlib.Core.Path.{ap}
-use mathlib.Core.Logic.{inl, inr, ⊎_elim}
+use mathlib.Core.Logic.{inl, inr}
 use borrow.Author.Tests.{le-leb, lt-leb}
 use borrow.Author.Rules.{rules}
 use Rattle.plain.specs.Told.{text_of}
 use Rattle.plain.proofs.Flags.{chosen}
 use Rattle.plain.proofs.Parts.{not_done}
 use Rattle.plain.specs.Told.{is_done}
-use Prim.Native.Nat.{◌-◌}
 use Rattle.plain.proofs.told.text.Goals as goal
 use Rattle.plain.proofs.told.text.Goals.{then-reader, else-reader, in-Done+else-to-from, in_default}
 

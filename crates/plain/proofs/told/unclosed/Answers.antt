@@ -2,7 +2,6 @@
 use borrow.Author.Rules.{rules}
 use Rattle.plain.specs.Told.{unclosed_of}
 use Rattle.plain.proofs.Parts.{no_end}
-use Prim.Native.Nat.{◌-◌}
 use Rattle.plain.proofs.told.unclosed.Goals as goal
 
 pub enum_told-1 : goal.enum_told-1

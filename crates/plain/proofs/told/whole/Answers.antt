@@ -3,7 +3,6 @@ use borrow.Author.Tests.{eq-eqb, ne_eqb}
 use borrow.Author.Rules.{rules}
 use Rattle.plain.specs.Told.{whole_of}
 use Rattle.plain.proofs.Parts.{becomes_tag}
-use Prim.Native.Nat.{◌-◌}
 use Rattle.plain.proofs.told.whole.Goals as goal
 
 pub stop-requires : goal.stop-requires

@@ -1,7 +1,6 @@
 -- `ends` meets its contract. Assumes nothing.
 use borrow.Author.Rules.{rules}
 use Rattle.plain.specs.Known.{ends_of}
-use Prim.Native.Nat.{◌-◌}
 use Rattle.plain.proofs.known.Known.ends.Goals as goal
 
 pub enum_told-1 : goal.enum_told-1

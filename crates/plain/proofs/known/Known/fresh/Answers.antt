@@ -1,7 +1,6 @@
 -- `fresh` meets its contract. Assumes nothing.
 use borrow.Author.Rules.{rules}
 use Rattle.plain.specs.Known.{fresh}
-use Prim.Native.Nat.{◌-◌}
 use Rattle.plain.proofs.known.Known.fresh.Goals as goal
 
 pub owing-requires : goal.owing-requires

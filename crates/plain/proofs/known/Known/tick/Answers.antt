@@ -1,9 +1,8 @@
 -- `tick` meets its contract. Assumes nothing.
-use mathlib.Core.Logic.{inl, inr, ⊎_elim}
+use mathlib.Core.Logic.{inl, inr}
 use borrow.Author.Rules.{rules}
 use Rattle.plain.specs.Known.{tick_of}
 use Rattle.plain.proofs.Flags.{chosen}
-use Prim.Native.Nat.{◌-◌}
 use Rattle.plain.proofs.Ticks.{tick_made}
 use Rattle.plain.proofs.known.Known.tick.Goals as goal
 use Rattle.plain.proofs.known.Known.tick.Goals.{then-white, else-white}

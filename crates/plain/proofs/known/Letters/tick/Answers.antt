@@ -2,7 +2,6 @@
 use borrow.Author.Rules.{rules}
 use Rattle.plain.specs.Letters.{letter}
 use Rattle.plain.proofs.Flags.{flags}
-use Prim.Native.Nat.{◌-◌}
 use Rattle.plain.proofs.known.Letters.tick.Goals as goal
 
 pub lead-requires : goal.lead-requires

@@ -1,7 +1,6 @@
 -- `next` meets its contract. Assumes nothing.
 use borrow.Author.Tests.{eq-eqb, ne_eqb}
 use borrow.Author.Rules.{rules}
-use Prim.Native.Nat.{◌-◌}
 use Rattle.plain.proofs.known.Part.next.Goals as goal
 
 pub enum_told-1 : goal.enum_told-1

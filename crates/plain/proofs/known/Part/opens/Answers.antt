@@ -1,6 +1,5 @@
 -- `opens` meets its contract. Assumes nothing.
 use borrow.Author.Rules.{rules}
-use Prim.Native.Nat.{◌-◌}
 use Rattle.plain.proofs.known.Part.opens.Goals as goal
 
 pub enum_told-1 : goal.enum_told-1
