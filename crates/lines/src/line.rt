@@ -1,8 +1,9 @@
 // The parts of a case's line, and how text and numbers are written.
 ghost use Rattle.std.specs.Prelude.{◌<◌, ◌≤◌, min, length};
-ghost use Rattle.io.specs.Counts.{IsPrefixLen};
+ghost use Rattle.lines.specs.Counts.{IsPrefixLen};
 
-use libc::STDOUT_FILENO;
+use std::io;
+use std::io::Write;
 
 // The first position from `from` on with the byte b, or the end.
 pub fn find(s: &[u8], from: usize, b: u8) -> usize
@@ -168,37 +169,37 @@ pub fn lent_bytes(size: usize, buffer: &[u8]) -> usize
 }
 
 // Writes text.
-pub fn say(text: &[u8]) {
-    io::write_all(STDOUT_FILENO, text);
+pub fn say<W: Write>(out: &mut W, text: &[u8]) -> io::Result<()> {
+    out.write_all(text)
 }
 
 // Writes text and a number.
-pub fn say_number(text: &[u8], n: usize) {
-    say(text);
-    io::print_decimal(STDOUT_FILENO, n as u64);
+pub fn say_number<W: Write>(out: &mut W, text: &[u8], n: usize) -> io::Result<()> {
+    say(out, text)?;
+    write!(out, "{n}")
 }
 
 // Writes a byte.
-pub fn put(b: u8) {
+pub fn put<W: Write>(out: &mut W, b: u8) -> io::Result<()> {
     let one = [b];
-    say(&one);
+    say(out, &one)
 }
 
 // Writes a byte and a number.
-pub fn put_number(b: u8, n: usize) {
-    put(b);
-    io::print_decimal(STDOUT_FILENO, n as u64);
+pub fn put_number<W: Write>(out: &mut W, b: u8, n: usize) -> io::Result<()> {
+    put(out, b)?;
+    write!(out, "{n}")
 }
 
 // Writes text with the numbers, one after the other, each in place of a `#`.
-pub fn say_numbers(text: &[u8], numbers: &[usize]) {
+pub fn say_numbers<W: Write>(out: &mut W, text: &[u8], numbers: &[usize]) -> io::Result<()> {
     let mut from = 0;
     let mut i = 0;
     while i < numbers.len() {
         let at = find(text, from, b'#');
-        say_number(ground::part(text, from, at), numbers[i]);
+        say_number(out, ground::part(text, from, at), numbers[i])?;
         from = at + 1;
         i += 1;
     }
-    say(ground::part(text, from, text.len()));
+    say(out, ground::part(text, from, text.len()))
 }

@@ -7,6 +7,8 @@
 // After them T is `trim_text(true)`, t `trim_text(false)`, K `enable_all_checks(true)` and k `enable_all_checks(false)`.
 use crate::line::{find, put};
 use state::config::Config;
+use std::io;
+use std::io::Write;
 
 pub fn settings(letters: &[u8]) -> Config {
     let d = Config::default();
@@ -57,34 +59,54 @@ fn checks(config: Config, letters: &[u8]) -> Config {
 }
 
 // Writes the letters of the flags that are not at their default, or `-`.
-pub fn say_settings(c: Config) {
+pub fn say_settings<W: Write>(out: &mut W, c: Config) -> io::Result<()> {
     let d = Config::default();
     let mut said = false;
-    said = say_flag(c.allow_dangling_amp, d.allow_dangling_amp, b'a', said);
-    said = say_flag(c.allow_unmatched_ends, d.allow_unmatched_ends, b'u', said);
-    said = say_flag(c.check_comments, d.check_comments, b'c', said);
-    said = say_flag(c.check_end_names, d.check_end_names, b'n', said);
-    said = say_flag(c.expand_empty_elements, d.expand_empty_elements, b'x', said);
+    said = say_flag(out, c.allow_dangling_amp, d.allow_dangling_amp, b'a', said)?;
     said = say_flag(
+        out,
+        c.allow_unmatched_ends,
+        d.allow_unmatched_ends,
+        b'u',
+        said,
+    )?;
+    said = say_flag(out, c.check_comments, d.check_comments, b'c', said)?;
+    said = say_flag(out, c.check_end_names, d.check_end_names, b'n', said)?;
+    said = say_flag(
+        out,
+        c.expand_empty_elements,
+        d.expand_empty_elements,
+        b'x',
+        said,
+    )?;
+    said = say_flag(
+        out,
         c.trim_markup_names_in_closing_tags,
         d.trim_markup_names_in_closing_tags,
         b'm',
         said,
-    );
-    said = say_flag(c.trim_text_start, d.trim_text_start, b's', said);
-    said = say_flag(c.trim_text_end, d.trim_text_end, b'e', said);
-    said = say_flag(c.check_open_names, d.check_open_names, b'o', said);
+    )?;
+    said = say_flag(out, c.trim_text_start, d.trim_text_start, b's', said)?;
+    said = say_flag(out, c.trim_text_end, d.trim_text_end, b'e', said)?;
+    said = say_flag(out, c.check_open_names, d.check_open_names, b'o', said)?;
     if !said {
-        put(b'-');
+        put(out, b'-')?;
     }
+    Ok(())
 }
 
 // Writes the letter of a flag that is not at its default, and answers whether a letter is written by now.
-fn say_flag(flag: bool, default: bool, letter: u8, before: bool) -> bool {
+fn say_flag<W: Write>(
+    out: &mut W,
+    flag: bool,
+    default: bool,
+    letter: u8,
+    before: bool,
+) -> io::Result<bool> {
     if flag == default {
-        before
+        Ok(before)
     } else {
-        put(letter);
-        true
+        put(out, letter)?;
+        Ok(true)
     }
 }

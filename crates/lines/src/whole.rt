@@ -1,8 +1,10 @@
 // What the programs share that read all of standard input: one document, or cases.
-ghost use Rattle.std.specs.Prelude.{◌≡◌, length};
+ghost use Rattle.std.specs.Prelude.{◌≡◌, length, IfOk};
+ghost use Rattle.lines.specs.Counts.{IsPrefixLen};
 
 use crate::line::say_numbers;
-use libc::STDIN_FILENO;
+use std::io;
+use std::io::{Read, Write};
 
 // The most bytes of a document.
 const LARGEST: usize = 65536;
@@ -17,17 +19,33 @@ pub fn room() -> [u8; ROOM]
     [0; ROOM]
 }
 
-// Whether n bytes are as many as are read, and standard input has another.
-pub fn more(n: usize) -> bool {
+// Reads until buf is full or the input ends, and answers how many bytes it put at the start of buf.
+pub fn read_full<R: Read>(input: &mut R, buf: &mut [u8]) -> io::Result<usize>
+    ensures { IfOk result (λ n. IsPrefixLen n buf.new) }
+{
+    let mut done = 0;
+    while done < buf.len() {
+        let n = input.read(&mut buf[done..])?;
+        if n == 0 {
+            break;
+        }
+        done += n;
+    }
+    Ok(done)
+}
+
+// Whether n bytes are as many as are read, and the input has another.
+pub fn more<R: Read>(input: &mut R, n: usize) -> io::Result<bool> {
     if n < LARGEST {
-        return false;
+        return Ok(false);
     }
     let mut next = [0u8; 1];
-    0 < io::read_full(STDIN_FILENO, &mut next)
+    let read = read_full(input, &mut next)?;
+    Ok(0 < read)
 }
 
 // Writes a refusal's number and place.
-pub fn say_refused(number: usize, place: usize) {
+pub fn say_refused<W: Write>(out: &mut W, number: usize, place: usize) -> io::Result<()> {
     let numbers = [number, place];
-    say_numbers(b"refused # #\n", &numbers);
+    say_numbers(out, b"refused # #\n", &numbers)
 }

@@ -1,9 +1,11 @@
 // Words by their numbers, and bytes that may not be printable.
 use crate::line::{find, put, put_number, say};
 use state::run::{Phase, Reader};
+use std::io;
+use std::io::Write;
 
 // Writes word number n of words with `;` between them, which are counted from 0: the last, if there are not so many.
-pub fn say_nth(words: &[u8], n: usize) {
+pub fn say_nth<W: Write>(out: &mut W, words: &[u8], n: usize) -> io::Result<()> {
     let mut from = 0;
     let mut left = n;
     while 0 < left {
@@ -14,7 +16,7 @@ pub fn say_nth(words: &[u8], n: usize) {
         }
         from = end + 1;
     }
-    say(ground::part(words, from, find(words, from, b';')));
+    say(out, ground::part(words, from, find(words, from, b';')))
 }
 
 // The number of a word among words with `;` between them; how many they are, if it is none of them.
@@ -33,15 +35,16 @@ pub fn number_of(word: &[u8], words: &[u8]) -> usize {
 }
 
 // The word of an event's kind.
-pub fn say_word(kind: usize) {
+pub fn say_word<W: Write>(out: &mut W, kind: usize) -> io::Result<()> {
     say_nth(
+        out,
         b"eof;start;end;empty;text;ref;comment;cdata;decl;pi;eof",
         kind,
-    );
+    )
 }
 
 // The word of a phase.
-pub fn say_phase(phase: Phase) {
+pub fn say_phase<W: Write>(out: &mut W, phase: Phase) -> io::Result<()> {
     let n = match phase {
         Phase::Init => 0,
         Phase::InsideText => 1,
@@ -50,44 +53,45 @@ pub fn say_phase(phase: Phase) {
         Phase::InsideEmpty => 4,
         Phase::Done => 5,
     };
-    say_nth(b"init;text;markup;ref;empty;done", n);
+    say_nth(out, b"init;text;markup;ref;empty;done", n)
 }
 
 // The phase, the position and how many names are open.
-pub fn say_place(reader: Reader) {
+pub fn say_place<W: Write>(out: &mut W, reader: Reader) -> io::Result<()> {
     let phase = reader.phase;
-    say_phase(phase);
-    put_number(b' ', reader.position.0);
-    put_number(b' ', reader.depth.0);
+    say_phase(out, phase)?;
+    put_number(out, b' ', reader.position.0)?;
+    put_number(out, b' ', reader.depth.0)
 }
 
 // Writes bytes between bars.
-pub fn say_bytes(bytes: &[u8]) {
-    put(b'|');
-    say_spelt(bytes);
-    put(b'|');
+pub fn say_bytes<W: Write>(out: &mut W, bytes: &[u8]) -> io::Result<()> {
+    put(out, b'|')?;
+    say_spelt(out, bytes)?;
+    put(out, b'|')
 }
 
 // Writes bytes: each that is not printable ASCII, and `\`, as `\` and two digits.
-pub fn say_spelt(bytes: &[u8]) {
+pub fn say_spelt<W: Write>(out: &mut W, bytes: &[u8]) -> io::Result<()> {
     let mut i = 0;
     while i < bytes.len() {
-        say_byte(bytes[i]);
+        say_byte(out, bytes[i])?;
         i += 1;
     }
+    Ok(())
 }
 
-fn say_byte(b: u8) {
+fn say_byte<W: Write>(out: &mut W, b: u8) -> io::Result<()> {
     match b {
-        b'\\' => say_hex(b),
-        b' '..=b'~' => put(b),
-        _ => say_hex(b),
+        b'\\' => say_hex(out, b),
+        b' '..=b'~' => put(out, b),
+        _ => say_hex(out, b),
     }
 }
 
-fn say_hex(b: u8) {
+fn say_hex<W: Write>(out: &mut W, b: u8) -> io::Result<()> {
     let digits: &[u8] = b"0123456789ABCDEF";
-    put(b'\\');
-    put(ground::byte_at(digits, (b / 16) as usize));
-    put(ground::byte_at(digits, (b % 16) as usize));
+    put(out, b'\\')?;
+    put(out, ground::byte_at(digits, (b / 16) as usize))?;
+    put(out, ground::byte_at(digits, (b % 16) as usize))
 }
