@@ -16,6 +16,8 @@ use state::config::Config;
 use state::limits::{MOST, SLOTS};
 use state::place::{Depth, Position, Span};
 use state::run::{Made, Phase, Reader, Step};
+use std::io;
+use std::io::Write;
 use tally::tally;
 
 // The slots that there are to lend: a few more than the most names take.
@@ -25,71 +27,91 @@ const ROOM: usize = SLOTS * MOST + 10;
 const PHASES: usize = 6;
 
 // Writes the answers below the line, if it has one of the forms.
-pub fn answer(text: &[u8]) {
+pub fn answer<W: Write>(out: &mut W, text: &[u8]) -> io::Result<()> {
     let end = word(text, 0);
     let form = ground::part(text, 0, end);
     match number_of(
         form,
         b"run;state;content;column;attributes;feed;row;rows;outermost;plain;plain-state",
     ) {
-        0 => run_case(text, end, false),
-        1 => state_case(text, end, false),
-        2 => content_case(text, end),
-        3 => column_case(text, end),
-        4 => attributes_case(text, end),
-        5 => feed_case(text, end),
-        6 => open_case(text, end, false),
-        7 => open_case(text, end, true),
-        8 => outermost_case(text, end),
-        9 => run_case(text, end, true),
-        10 => state_case(text, end, true),
-        _ => {}
+        0 => run_case(out, text, end, false),
+        1 => state_case(out, text, end, false),
+        2 => content_case(out, text, end),
+        3 => column_case(out, text, end),
+        4 => attributes_case(out, text, end),
+        5 => feed_case(out, text, end),
+        6 => open_case(out, text, end, false),
+        7 => open_case(out, text, end, true),
+        8 => outermost_case(out, text, end),
+        9 => run_case(out, text, end, true),
+        10 => state_case(out, text, end, true),
+        _ => Ok(())
     }
 }
 
 // A run, and the counts of another over the same document and stack; or a run by the plain engine. Its settings, its slots and its bytes stand after the space
 // at `from`.
-fn run_case(text: &[u8], from: usize, plain: bool) {
+fn run_case<W: Write>(out: &mut W, text: &[u8], from: usize, plain: bool) -> io::Result<()> {
     let end = word(text, from);
     let settings = settings(ground::part(text, from, end));
     let slots = number(text, end);
-    let mut space = io::buffer();
+    let mut space = [0u8; 4096];
     let n = bytes(text, slots.next, &mut space);
     let document = &space[..n];
     let mut stack = [0usize; ROOM];
     let lent = lent(slots.value, &stack);
-    run(document, &mut stack[..lent], settings, plain);
+    run(out, document, &mut stack[..lent], settings, plain)
 }
 
-fn run(document: &[u8], stack: &mut [usize], settings: Config, plain: bool) {
-    calls(document, stack, settings, plain);
+fn run<W: Write>(
+    out: &mut W,
+    document: &[u8],
+    stack: &mut [usize],
+    settings: Config,
+    plain: bool,
+) -> io::Result<()> {
+    calls(out, document, stack, settings, plain)?;
     if !plain {
-        say_tally(tally(document, stack, settings));
+        say_tally(out, tally(document, stack, settings))?;
     }
+    Ok(())
 }
 
-fn calls(document: &[u8], stack: &mut [usize], settings: Config, plain: bool) {
+fn calls<W: Write>(
+    out: &mut W,
+    document: &[u8],
+    stack: &mut [usize],
+    settings: Config,
+    plain: bool,
+) -> io::Result<()> {
     match Reader::new(document, settings) {
-        Made::Fresh(reader) => all(reader, document, stack, plain),
-        Made::Refused(_) => say(b"  refused 16 0\n"),
+        Made::Fresh(reader) => all(out, reader, document, stack, plain),
+        Made::Refused(_) => say(out, b"  refused 16 0\n"),
     }
 }
 
 // Calls until end of file, which comes after as many calls as the document has bytes and two more, or before, and once more.
-fn all(fresh: Reader, document: &[u8], stack: &mut [usize], plain: bool) {
+fn all<W: Write>(
+    out: &mut W,
+    fresh: Reader,
+    document: &[u8],
+    stack: &mut [usize],
+    plain: bool,
+) -> io::Result<()> {
     let mut reader = fresh;
     let mut ended = false;
     let mut left = document.len() + 3;
     while 0 < left {
         left -= 1;
-        let turn = call(reader, document, stack, plain);
+        let turn = call(out, reader, document, stack, plain)?;
         reader = turn.reader;
-        say_names(reader, stack);
+        say_names(out, reader, stack)?;
         if ended {
             break;
         }
         ended = turn.ended;
     }
+    Ok(())
 }
 
 // A reader after a call, and whether the call answered end of file.
@@ -109,21 +131,27 @@ fn step(reader: Reader, document: &[u8], stack: &mut [usize], plain: bool) -> St
 }
 
 // One call, and its answer written.
-fn call(reader: Reader, document: &[u8], stack: &mut [usize], plain: bool) -> Turn {
+fn call<W: Write>(
+    out: &mut W,
+    reader: Reader,
+    document: &[u8],
+    stack: &mut [usize],
+    plain: bool,
+) -> io::Result<Turn> {
     let step = step(reader, document, stack, plain);
     let after = step.reader;
     let answer = step.answer;
     let values = answer.values();
-    say_values(values);
+    say_values(out, values)?;
     let eof = Kind::Eof;
-    Turn {
+    Ok(Turn {
         reader: after,
         ended: values.kind == eof.number(),
-    }
+    })
 }
 
 // One call: the state that it starts from stands after the space at `from`, with the stack's values and the bytes behind it.
-fn state_case(text: &[u8], from: usize, plain: bool) {
+fn state_case<W: Write>(out: &mut W, text: &[u8], from: usize, plain: bool) -> io::Result<()> {
     let end = word(text, from);
     let settings = settings(ground::part(text, from, end));
     let next = word(text, end);
@@ -143,9 +171,9 @@ fn state_case(text: &[u8], from: usize, plain: bool) {
     };
     let mut stack = filled(text, slots.next);
     let lent = lent(slots.value, &stack);
-    let mut space = io::buffer();
+    let mut space = [0u8; 4096];
     let n = bytes(text, word(text, slots.next), &mut space);
-    one_call(reader, &space[..n], &mut stack[..lent], plain);
+    one_call(out, reader, &space[..n], &mut stack[..lent], plain)
 }
 
 // A stack with the values that stand after the space at `from`, and 0 in the slots after them.
@@ -177,70 +205,82 @@ fn phase(number: usize) -> Phase {
 }
 
 // The call, and all that it leaves.
-fn one_call(reader: Reader, document: &[u8], stack: &mut [usize], plain: bool) {
-    let turn = call(reader, document, stack, plain);
+fn one_call<W: Write>(
+    out: &mut W,
+    reader: Reader,
+    document: &[u8],
+    stack: &mut [usize],
+    plain: bool,
+) -> io::Result<()> {
+    let turn = call(out, reader, document, stack, plain)?;
     let after = turn.reader;
-    say_reader(after);
-    say_slots(stack);
+    say_reader(out, after)?;
+    say_slots(out, stack)
 }
 
 // The bytes of a span.
-fn content_case(text: &[u8], from: usize) {
+fn content_case<W: Write>(out: &mut W, text: &[u8], from: usize) -> io::Result<()> {
     let start = number(text, from);
     let end = number(text, start.next);
-    let mut space = io::buffer();
+    let mut space = [0u8; 4096];
     let n = bytes(text, end.next, &mut space);
-    say(b"  ");
+    say(out, b"  ")?;
     let span = Span {
         from: start.value,
         to: end.value,
     };
-    say(content(&space[..n], span));
-    put(b'\n');
+    say(out, content(&space[..n], span))?;
+    put(out, b'\n')
 }
 
 // The times of a document. How many slots the column and the stack have, and the bytes, stand after the space at `from`.
-fn column_case(text: &[u8], from: usize) {
+fn column_case<W: Write>(out: &mut W, text: &[u8], from: usize) -> io::Result<()> {
     let room = number(text, from);
     let slots = number(text, room.next);
-    let mut space = io::buffer();
+    let mut space = [0u8; 4096];
     let n = bytes(text, slots.next, &mut space);
     let mut times = [9999usize; 16];
     let mut stack = [0usize; 16];
     let filled = lent(room.value, &times);
     let lent = lent(slots.value, &stack);
-    times_of(&space[..n], &mut stack[..lent], &mut times[..filled]);
+    times_of(out, &space[..n], &mut stack[..lent], &mut times[..filled])
 }
 
-fn times_of(document: &[u8], stack: &mut [usize], times: &mut [usize]) {
+fn times_of<W: Write>(
+    out: &mut W,
+    document: &[u8],
+    stack: &mut [usize],
+    times: &mut [usize],
+) -> io::Result<()> {
     let summary = column(document, stack, times);
-    say_column(summary);
-    say_slots(times);
-    say(b"  stack");
-    say_slots(stack);
+    say_column(out, summary)?;
+    say_slots(out, times)?;
+    say(out, b"  stack")?;
+    say_slots(out, stack)
 }
 
 // The attributes of a tag, whose content stands after the space at `from`.
-fn attributes_case(text: &[u8], from: usize) {
-    let mut space = io::buffer();
+fn attributes_case<W: Write>(out: &mut W, text: &[u8], from: usize) -> io::Result<()> {
+    let mut space = [0u8; 4096];
     let n = bytes(text, from, &mut space);
-    attributes_of(&space[..n]);
+    attributes_of(out, &space[..n])
 }
 
 // Calls from the name on, up to the first that gives no attribute: there are fewer attributes than bytes.
-fn attributes_of(content: &[u8]) {
+fn attributes_of<W: Write>(out: &mut W, content: &[u8]) -> io::Result<()> {
     let name = white::name_len(content, 0, content.len());
     let mut at = name;
     let mut left = content.len() + 1;
     while 0 < left {
         left -= 1;
         let item = attributes::attribute(content, name, at);
-        say_item(b"  ", item);
-        put(b'\n');
+        say_item(out, b"  ", item)?;
+        put(out, b'\n')?;
         let values = item.values();
         if values.found == 0 {
             break;
         }
         at = values.next;
     }
+    Ok(())
 }

@@ -2,26 +2,29 @@
 use crate::says::say_item;
 use lines::line::{bytes, lent_bytes, number, put, say, say_number, say_numbers, word};
 use lines::words::{number_of, say_bytes, say_nth};
+use std::io;
+use std::io::Write;
 
 // Writes the answer behind the line, if it names a function.
-pub fn answer(text: &[u8]) {
+pub fn answer<W: Write>(out: &mut W, text: &[u8]) -> io::Result<()> {
     let end = word(text, 0);
     let name = ground::part(text, 0, end);
     let from = number(text, end);
     let second = word(text, end);
     let to = number(text, second);
     let third = word(text, second);
-    let mut space = io::buffer();
+    let mut space = [0u8; 4096];
     let n = bytes(text, third, &mut space);
-    let mut room = io::buffer();
+    let mut room = [0u8; 4096];
     let m = bytes(ground::part(text, 0, third), second, &mut room);
     call(
+        out,
         function(name),
         &space[..n],
         from.value,
         to.value,
         &room[..m],
-    );
+    )
 }
 
 // The number of a function, as `call` has them; that of none of them for any other name.
@@ -33,52 +36,71 @@ fn function(name: &[u8]) -> usize {
 }
 
 // Calls a function on bytes and numbers. Those that compare with other bytes have them where the second number would stand.
-fn call(function: usize, s: &[u8], from: usize, to: usize, other: &[u8]) {
+fn call<W: Write>(
+    out: &mut W,
+    function: usize,
+    s: &[u8],
+    from: usize,
+    to: usize,
+    other: &[u8],
+) -> io::Result<()> {
     match function {
-        0 => say_part(s, from, to),
-        1 => say_value(ground::byte_at(s, from) as usize),
-        2 => say_white(s, from),
-        3 => say_value(white::name_len(s, from, to)),
-        4 => say_value(white::trim_end(s, from, to)),
-        5 => say_value(white::trim_start(s, from, to)),
-        6 => say_utf8(utf8::check(s, from, to)),
-        7 => say_truth(ground::starts_with(s, from, other)),
-        8 => say_truth(ground::same(s, other)),
-        9 => say_element(parser::element::element_end(s, from)),
-        10 => say_marks(parser::pi::pi_end(s, from)),
-        11 => say_marks(parser::comment::comment_end(s, from)),
-        12 => say_marks(parser::cdata::cdata_end(s, from)),
-        13 => say_first(parser::text::text_end(s, from)),
-        14 => say_first(parser::reference::reference_end(s, from)),
-        15 => say_first(parser::hyphens::pair_end(s, from)),
-        16 => say_item(b" = ", attributes::attribute(s, from, to)),
-        17 => say_item(b" = ", attributes::find::find(s, from, other)),
-        18 => say_written(s, from, to, true),
-        19 => say_written(s, from, to, false),
-        _ => {}
+        0 => say_part(out, s, from, to),
+        1 => say_value(out, ground::byte_at(s, from) as usize),
+        2 => say_white(out, s, from),
+        3 => say_value(out, white::name_len(s, from, to)),
+        4 => say_value(out, white::trim_end(s, from, to)),
+        5 => say_value(out, white::trim_start(s, from, to)),
+        6 => say_utf8(out, utf8::check(s, from, to)),
+        7 => say_truth(out, ground::starts_with(s, from, other)),
+        8 => say_truth(out, ground::same(s, other)),
+        9 => say_element(out, parser::element::element_end(s, from)),
+        10 => say_marks(out, parser::pi::pi_end(s, from)),
+        11 => say_marks(out, parser::comment::comment_end(s, from)),
+        12 => say_marks(out, parser::cdata::cdata_end(s, from)),
+        13 => say_first(out, parser::text::text_end(s, from)),
+        14 => say_first(out, parser::reference::reference_end(s, from)),
+        15 => say_first(out, parser::hyphens::pair_end(s, from)),
+        16 => say_item(out, b" = ", attributes::attribute(s, from, to)),
+        17 => say_item(out, b" = ", attributes::find::find(s, from, other)),
+        18 => say_written(out, s, from, to, true),
+        19 => say_written(out, s, from, to, false),
+        _ => Ok(())
     }
 }
 
 // What comes of a text or of one reference in a buffer of so many bytes, each of which is `.` before.
-fn say_written(s: &[u8], size: usize, at: usize, whole: bool) {
+fn say_written<W: Write>(
+    out: &mut W,
+    s: &[u8],
+    size: usize,
+    at: usize,
+    whole: bool,
+) -> io::Result<()> {
     let mut galley = [b'.'; 128];
     let n = lent_bytes(size, &galley);
-    say_galley(s, &mut galley[..n], at, whole);
+    say_galley(out, s, &mut galley[..n], at, whole)
 }
 
 // How many bytes were written, or a refusal's number and place, and the whole buffer.
-fn say_galley(s: &[u8], galley: &mut [u8], at: usize, whole: bool) {
+fn say_galley<W: Write>(
+    out: &mut W,
+    s: &[u8],
+    galley: &mut [u8],
+    at: usize,
+    whole: bool,
+) -> io::Result<()> {
     let written = written(s, galley, at, whole);
     let values = written.values();
     let number = values.number;
     let numbers = [number, values.place];
     if number == 0 {
-        say_number(b" = ", values.count);
+        say_number(out, b" = ", values.count)?;
     } else {
-        say_numbers(b" = refused # #", &numbers);
+        say_numbers(out, b" = refused # #", &numbers)?;
     }
-    put(b' ');
-    say_bytes(galley);
+    put(out, b' ')?;
+    say_bytes(out, galley)
 }
 
 fn written(s: &[u8], galley: &mut [u8], at: usize, whole: bool) -> escape::answer::Written {
@@ -88,66 +110,71 @@ fn written(s: &[u8], galley: &mut [u8], at: usize, whole: bool) -> escape::answe
     escape::resolve(s, galley, at)
 }
 
-fn say_value(n: usize) {
-    say_number(b" = ", n);
+fn say_value<W: Write>(out: &mut W, n: usize) -> io::Result<()> {
+    say_number(out, b" = ", n)
 }
 
-fn say_at(at: usize) {
-    say_number(b" = at ", at);
+fn say_at<W: Write>(out: &mut W, at: usize) -> io::Result<()> {
+    say_number(out, b" = at ", at)
 }
 
-fn say_part(s: &[u8], from: usize, to: usize) {
-    say(b" = ");
-    say(ground::part(s, from, to));
+fn say_part<W: Write>(out: &mut W, s: &[u8], from: usize, to: usize) -> io::Result<()> {
+    say(out, b" = ")?;
+    say(out, ground::part(s, from, to))
 }
 
 // Of the byte at `from`, if there is one.
-fn say_white(s: &[u8], from: usize) {
+fn say_white<W: Write>(out: &mut W, s: &[u8], from: usize) -> io::Result<()> {
     if from < s.len() {
-        say_truth(white::is_whitespace(s[from]));
+        say_truth(out, white::is_whitespace(s[from]))?;
     }
+    Ok(())
 }
 
-fn say_truth(t: bool) {
-    say_nth(b" = false; = true", t as usize);
+fn say_truth<W: Write>(out: &mut W, t: bool) -> io::Result<()> {
+    say_nth(out, b" = false; = true", t as usize)
 }
 
-fn say_utf8(u: utf8::Utf8) {
+fn say_utf8<W: Write>(out: &mut W, u: utf8::Utf8) -> io::Result<()> {
     match u {
-        utf8::Utf8::WellFormed => say(b" = well formed"),
-        utf8::Utf8::IllFormed(at) => say_number(b" = ill formed at ", at),
+        utf8::Utf8::WellFormed => say(out, b" = well formed"),
+        utf8::Utf8::IllFormed(at) => say_number(out, b" = ill formed at ", at),
     }
 }
 
-fn say_element(f: parser::element::Found) {
+fn say_element<W: Write>(out: &mut W, f: parser::element::Found) -> io::Result<()> {
     match f {
-        parser::element::Found::At(at) => say_at(at),
-        parser::element::Found::Open(q) => say_open(q),
+        parser::element::Found::At(at) => say_at(out, at),
+        parser::element::Found::Open(q) => say_open(out, q),
     }
 }
 
-fn say_open(q: parser::element::ElementState) {
+fn say_open<W: Write>(out: &mut W, q: parser::element::ElementState) -> io::Result<()> {
     let n = match q {
         parser::element::ElementState::Outside => 0,
         parser::element::ElementState::SingleQ => 1,
         parser::element::ElementState::DoubleQ => 2,
     };
-    say_nth(b" = open, outside; = open, within '; = open, within \"", n);
+    say_nth(
+        out,
+        b" = open, outside; = open, within '; = open, within \"",
+        n,
+    )
 }
 
-fn say_marks(f: parser::marks::Found) {
+fn say_marks<W: Write>(out: &mut W, f: parser::marks::Found) -> io::Result<()> {
     match f {
-        parser::marks::Found::At(at) => say_at(at),
+        parser::marks::Found::At(at) => say_at(out, at),
         parser::marks::Found::Open(m) => {
             let numbers = [m.left, m.seen];
-            say_numbers(b" = open, left #, seen #", &numbers);
+            say_numbers(out, b" = open, left #, seen #", &numbers)
         }
     }
 }
 
-fn say_first(f: parser::first::Found) {
+fn say_first<W: Write>(out: &mut W, f: parser::first::Found) -> io::Result<()> {
     match f {
-        parser::first::Found::At(at) => say_at(at),
-        parser::first::Found::End => say(b" = end"),
+        parser::first::Found::At(at) => say_at(out, at),
+        parser::first::Found::End => say(out, b" = end"),
     }
 }

@@ -23,37 +23,40 @@ mod leaves;
 mod open;
 mod says;
 
-use libc::STDIN_FILENO;
 use lines::{line, whole};
+use std::io;
+use std::io::Write;
 
-fn main() {
+fn main(rt: HostRuntime) -> io::Result<()> {
+    let mut input = rt.reader();
+    let mut out = io::writer(&rt);
     let mut buffer = whole::room();
-    let n = io::read_full(STDIN_FILENO, &mut buffer);
+    let n = whole::read_full(&mut input, &mut buffer)?;
     if whole::ROOM <= n {
-        line::say(b"too long\n");
-        return;
+        return line::say(&mut out, b"too long\n");
     }
-    run(&buffer[..n]);
+    run(&mut out, &buffer[..n])
 }
 
 // Each line in turn.
-fn run(s: &[u8]) {
+fn run<W: Write>(out: &mut W, s: &[u8]) -> io::Result<()> {
     let mut at = 0;
     while at < s.len() {
         let end = line::find(s, at, b'\n');
-        answer(ground::part(s, at, end));
+        answer(out, ground::part(s, at, end))?;
         at = end + 1;
     }
+    Ok(())
 }
 
 // Writes a line, with its answer behind it or its answers below it. One of more than 4,096 bytes gets none.
-fn answer(text: &[u8]) {
-    line::say(text);
+fn answer<W: Write>(out: &mut W, text: &[u8]) -> io::Result<()> {
+    line::say(out, text)?;
     if 4096 < text.len() {
-        line::say(b" = too long\n");
+        line::say(out, b" = too long\n")
     } else {
-        leaves::answer(text);
-        line::put(b'\n');
-        calls::answer(text);
+        leaves::answer(out, text)?;
+        line::put(out, b'\n')?;
+        calls::answer(out, text)
     }
 }

@@ -6,45 +6,48 @@
 use columns::column as read_column;
 use columns::order::Order;
 use columns::spell::spell;
-use libc::STDIN_FILENO;
 use lines::line::{say, say_numbers};
-use lines::whole::{more, say_refused};
+use lines::whole::{more, read_full, say_refused};
+use std::io;
+use std::io::Write;
 
-fn main() {
-    let mut buffer = io::large_buffer();
-    let n = io::read_full(STDIN_FILENO, &mut buffer);
-    if more(n) {
-        say_refused(16, 0);
-        say_order(0, Order::Kept);
-        return;
+fn main(rt: HostRuntime) -> io::Result<()> {
+    let mut input = rt.reader();
+    let mut out = io::writer(&rt);
+    let mut buffer = [0u8; 65536];
+    let n = read_full(&mut input, &mut buffer)?;
+    if more(&mut input, n)? {
+        say_refused(&mut out, 16, 0)?;
+        return say_order(&mut out, 0, Order::Kept);
     }
-    list(&buffer[..n]);
+    list(&mut out, &buffer[..n])
 }
 
 // The times, the refusal and the order. The column has a slot for every five bytes: a time has as many.
-fn list(document: &[u8]) {
+fn list<W: Write>(out: &mut W, document: &[u8]) -> io::Result<()> {
     let mut stack = [0usize; 128];
     let mut times = [0usize; 13107];
     let summary = read_column(document, &mut stack, &mut times);
     let outcome = summary.outcome;
     let order = summary.order;
-    say_times(&times[..summary.count]);
+    say_times(out, &times[..summary.count])?;
     if outcome.is_refused() {
         let values = outcome.values();
-        say_refused(values.number, values.place);
+        say_refused(out, values.number, values.place)?;
     }
-    say_order(summary.count, order);
+    say_order(out, summary.count, order)
 }
 
-fn say_times(times: &[usize]) {
+fn say_times<W: Write>(out: &mut W, times: &[usize]) -> io::Result<()> {
     let mut i = 0;
     while i < times.len() {
-        say_time(times[i]);
+        say_time(out, times[i])?;
         i += 1;
     }
+    Ok(())
 }
 
-fn say_time(value: usize) {
+fn say_time<W: Write>(out: &mut W, value: usize) -> io::Result<()> {
     let text = [
         spell(value, 0),
         spell(value, 1),
@@ -53,15 +56,15 @@ fn say_time(value: usize) {
         spell(value, 4),
         b'\n',
     ];
-    say(&text);
+    say(out, &text)
 }
 
-fn say_order(count: usize, order: Order) {
+fn say_order<W: Write>(out: &mut W, count: usize, order: Order) -> io::Result<()> {
     let lower = order.number();
     let numbers = [count, lower];
     if lower == 0 {
-        say_numbers(b"# in order\n", &numbers[..1]);
+        say_numbers(out, b"# in order\n", &numbers[..1])
     } else {
-        say_numbers(b"# lower at #\n", &numbers);
+        say_numbers(out, b"# lower at #\n", &numbers)
     }
 }

@@ -4,34 +4,41 @@
 
 mod line;
 
-use libc::STDIN_FILENO;
-use lines::whole::{more, say_refused};
+use lines::whole::{more, read_full, say_refused};
 use reader::advance;
 use state::answer::Kind;
 use state::config::Config;
 use state::run::{Made, Reader};
+use std::io;
+use std::io::Write;
 
-fn main() {
-    let mut buffer = io::large_buffer();
-    let n = io::read_full(STDIN_FILENO, &mut buffer);
-    if more(n) {
-        say_refused(16, 0);
-        return;
+fn main(rt: HostRuntime) -> io::Result<()> {
+    let mut input = rt.reader();
+    let mut out = io::writer(&rt);
+    let mut buffer = [0u8; 65536];
+    let n = read_full(&mut input, &mut buffer)?;
+    if more(&mut input, n)? {
+        return say_refused(&mut out, 16, 0);
     }
-    list(&buffer[..n]);
+    list(&mut out, &buffer[..n])
 }
 
-fn list(document: &[u8]) {
+fn list<W: Write>(out: &mut W, document: &[u8]) -> io::Result<()> {
     let settings = Config::default();
     let mut stack = [0usize; 128];
     match Reader::new(document, settings) {
-        Made::Fresh(reader) => run(reader, document, &mut stack),
-        Made::Refused(refusal) => line::say_values(refusal.values()),
+        Made::Fresh(reader) => run(out, reader, document, &mut stack),
+        Made::Refused(refusal) => line::say_values(out, refusal.values()),
     }
 }
 
 // Calls until end of file, which comes after as many calls as the document has bytes and two more, or before.
-fn run(fresh: Reader, document: &[u8], stack: &mut [usize]) {
+fn run<W: Write>(
+    out: &mut W,
+    fresh: Reader,
+    document: &[u8],
+    stack: &mut [usize],
+) -> io::Result<()> {
     let eof = Kind::Eof;
     let last = eof.number();
     let mut reader = fresh;
@@ -42,9 +49,10 @@ fn run(fresh: Reader, document: &[u8], stack: &mut [usize]) {
         reader = step.reader;
         let answer = step.answer;
         let values = answer.values();
-        line::say_values(values);
+        line::say_values(out, values)?;
         if values.kind == last {
             break;
         }
     }
+    Ok(())
 }

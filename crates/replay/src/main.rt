@@ -17,44 +17,47 @@ mod references;
 mod says;
 mod tags;
 
-use libc::STDIN_FILENO;
 use lines::words::number_of;
 use lines::{line, whole};
+use std::io;
+use std::io::Write;
 
-fn main() {
+fn main(rt: HostRuntime) -> io::Result<()> {
+    let mut input = rt.reader();
+    let mut out = io::writer(&rt);
     let mut buffer = whole::room();
-    let n = io::read_full(STDIN_FILENO, &mut buffer);
+    let n = whole::read_full(&mut input, &mut buffer)?;
     if whole::ROOM <= n {
-        line::say(b"too long\n");
-        return;
+        return line::say(&mut out, b"too long\n");
     }
-    run(&buffer[..n]);
+    run(&mut out, &buffer[..n])
 }
 
 // Each line in turn.
-fn run(s: &[u8]) {
+fn run<W: Write>(out: &mut W, s: &[u8]) -> io::Result<()> {
     let mut at = 0;
     while at < s.len() {
         let end = line::find(s, at, b'\n');
-        answer(ground::part(s, at, end));
+        answer(out, ground::part(s, at, end))?;
         at = end + 1;
     }
+    Ok(())
 }
 
-fn answer(text: &[u8]) {
+fn answer<W: Write>(out: &mut W, text: &[u8]) -> io::Result<()> {
     if ground::byte_at(text, 0) == b'#' {
-        return;
+        return Ok(());
     }
-    line::say(text);
-    line::put(b'\n');
+    line::say(out, text)?;
+    line::put(out, b'\n')?;
     let end = line::word(text, 0);
     let form = ground::part(text, 0, end);
     match number_of(form, b"difference;added;attributes;escape;reference") {
-        0 => calls::case(text, line::word(text, end)),
-        1 => calls::case(text, end),
-        2 => tags::case(text, end),
-        3 => references::case(text, end, false),
-        4 => references::case(text, end, true),
-        _ => calls::case(text, 0),
+        0 => calls::case(out, text, line::word(text, end)),
+        1 => calls::case(out, text, end),
+        2 => tags::case(out, text, end),
+        3 => references::case(out, text, end, false),
+        4 => references::case(out, text, end, true),
+        _ => calls::case(out, text, 0),
     }
 }

@@ -7,27 +7,29 @@ use escape::scalar::encode;
 use ground::{byte_at, part};
 use lines::line::{bytes, digit_of, find, put, put_number, say, say_number, say_numbers, word};
 use lines::words::{say_bytes, say_spelt};
+use std::io;
+use std::io::Write;
 
 // Runs the case whose tag stands after the space at `from`: a text, or one reference. No text has more bytes than its content.
-pub fn case(text: &[u8], from: usize, single: bool) {
-    let mut space = io::buffer();
+pub fn case<W: Write>(out: &mut W, text: &[u8], from: usize, single: bool) -> io::Result<()> {
+    let mut space = [0u8; 4096];
     let n = bytes(text, word(text, from), &mut space);
-    run(&space[..n], single);
+    run(out, &space[..n], single)
 }
 
 // Our answer, and above it the crate's where it gives something else than our refusal.
-fn run(content: &[u8], single: bool) {
-    let mut galley = io::buffer();
+fn run<W: Write>(out: &mut W, content: &[u8], single: bool) -> io::Result<()> {
+    let mut galley = [0u8; 4096];
     let written = written(content, &mut galley, single);
     let ours = written.values();
     let numbers = [ours.number, ours.place];
     if ours.number == 0 {
-        say(b"  text ");
-        say_bytes(part(&galley, 0, ours.count));
-        put(b'\n');
+        say(out, b"  text ")?;
+        say_bytes(out, part(&galley, 0, ours.count))?;
+        put(out, b'\n')
     } else {
-        say_crate(content, ours, single);
-        say_numbers(b"  refused # #\n", &numbers);
+        say_crate(out, content, ours, single)?;
+        say_numbers(out, b"  refused # #\n", &numbers)
     }
 }
 
@@ -56,60 +58,60 @@ struct Told {
 }
 
 // What the crate gives, where that is something else than our refusal.
-fn say_crate(content: &[u8], ours: Values, single: bool) {
-    let told = told_by_crate(content, single);
+fn say_crate<W: Write>(out: &mut W, content: &[u8], ours: Values, single: bool) -> io::Result<()> {
+    let told = told_by_crate(out, content, single)?;
     let code = told.code;
     let number = code / ERROR;
     if (told.place == ours.place) & (number == ours.number) {
-        return;
+        return Ok(());
     }
     if number == 0 {
-        say_given(content, code);
-        return;
+        return say_given(out, content, code);
     }
-    say_number(b"  crate refused ", number);
+    say_number(out, b"  crate refused ", number)?;
     if code == UNKNOWN {
-        put_number(b' ', told.place);
+        put_number(out, b' ', told.place)?;
     }
-    put(b'\n');
+    put(out, b'\n')
 }
 
-fn told_by_crate(content: &[u8], single: bool) -> Told {
+fn told_by_crate<W: Write>(out: &mut W, content: &[u8], single: bool) -> io::Result<Told> {
     if single {
-        return Told {
+        return Ok(Told {
             code: reference_of_crate(content),
             place: 0,
-        };
+        });
     }
-    text_of_crate(content, false)
+    text_of_crate(out, content, false)
 }
 
 // The character of a single reference, or the whole text.
-fn say_given(content: &[u8], code: usize) {
-    say(b"  crate text |");
+fn say_given<W: Write>(out: &mut W, content: &[u8], code: usize) -> io::Result<()> {
+    say(out, b"  crate text |")?;
     if code == 0 {
-        text_of_crate(content, true);
+        text_of_crate(out, content, true)?;
     } else {
-        say_character(code);
+        say_character(out, code)?;
     }
-    say(b"|\n");
+    say(out, b"|\n")
 }
 
-fn say_character(value: usize) {
+fn say_character<W: Write>(out: &mut W, value: usize) -> io::Result<()> {
     if value < ERROR {
         let mut four = [0u8; 4];
         let n = encode(value as u32, &mut four);
-        say_spelt(part(&four, 0, n));
+        say_spelt(out, part(&four, 0, n))?;
     }
+    Ok(())
 }
 
 // A text, up to the first error from the left. A reference ends at the next `;`, with no `&` before it. Writes what comes of it on the way, where `says` is set.
-fn text_of_crate(content: &[u8], says: bool) -> Told {
+fn text_of_crate<W: Write>(out: &mut W, content: &[u8], says: bool) -> io::Result<Told> {
     let mut i = 0;
     while i < content.len() {
         let at = find(content, i, b'&');
         if says {
-            say_spelt(part(content, i, at));
+            say_spelt(out, part(content, i, at))?;
         }
         if content.len() <= at {
             break;
@@ -117,24 +119,24 @@ fn text_of_crate(content: &[u8], says: bool) -> Told {
         let from = at + 1;
         let end = find(content, from, b';');
         if (content.len() <= end) | (find(content, from, b'&') < end) {
-            return Told {
+            return Ok(Told {
                 code: UNKNOWN,
                 place: at,
-            };
+            });
         }
         let code = reference_of_crate(part(content, from, end));
         if ERROR <= code {
-            return Told { code, place: at };
+            return Ok(Told { code, place: at });
         }
         if says {
-            say_character(code);
+            say_character(out, code)?;
         }
         i = end + 1;
     }
-    Told {
+    Ok(Told {
         code: 0,
         place: content.len(),
-    }
+    })
 }
 
 // The content of a reference.

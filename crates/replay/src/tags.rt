@@ -5,19 +5,21 @@ use attributes::find::find;
 use attributes::item::{Extent, Values};
 use ground::byte_at;
 use lines::line::{bytes, word};
+use std::io;
+use std::io::Write;
 use white::trim_start;
 
 // Runs the case whose tag stands after the space at `from`. The crate checks for duplicates, but for the tag that says otherwise.
-pub fn case(text: &[u8], from: usize) {
+pub fn case<W: Write>(out: &mut W, text: &[u8], from: usize) -> io::Result<()> {
     let end = word(text, from);
     let checks = !ground::same(ground::part(text, from, end), b" attribute-duplicate");
-    let mut space = io::buffer();
+    let mut space = [0u8; 4096];
     let n = bytes(text, end, &mut space);
-    run(&space[..n], checks);
+    run(out, &space[..n], checks)
 }
 
 // Calls from the name on, up to the first that gives no attribute: there are fewer attributes than bytes.
-fn run(content: &[u8], checks: bool) {
+fn run<W: Write>(out: &mut W, content: &[u8], checks: bool) -> io::Result<()> {
     let name = white::name_len(content, 0, content.len());
     let mut at = name;
     let mut left = content.len() + 1;
@@ -25,23 +27,31 @@ fn run(content: &[u8], checks: bool) {
         left -= 1;
         let item = attribute(content, name, at);
         let values = item.values();
-        say_both(content, name, at, checks, values);
+        say_both(out, content, name, at, checks, values)?;
         if values.found == 0 {
             break;
         }
         at = values.next;
     }
+    Ok(())
 }
 
 // Our answer, and above it the crate's where it gives something else than our refusal.
-fn say_both(content: &[u8], name: usize, at: usize, checks: bool, ours: Values) {
+fn say_both<W: Write>(
+    out: &mut W,
+    content: &[u8],
+    name: usize,
+    at: usize,
+    checks: bool,
+    ours: Values,
+) -> io::Result<()> {
     if ours.number != 0 {
         let theirs = item_of_crate(content, name, at, checks);
         if !alike(ours, theirs) {
-            say_item(b"  crate ", theirs, content);
+            say_item(out, b"  crate ", theirs, content)?;
         }
     }
-    say_item(b"  ", ours, content);
+    say_item(out, b"  ", ours, content)
 }
 
 fn alike(ours: Values, theirs: Values) -> bool {
