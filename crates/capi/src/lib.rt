@@ -20,8 +20,7 @@ use state::place::Span;
 use state::run::{Made, Reader};
 
 // The settings of a reader to which none are given.
-#[unsafe(no_mangle)]
-pub extern "C" fn sporebasket_default_settings() -> usize
+pub fn sporebasket_default_settings() -> usize
     ensures { result ≡ settings_number defaults }
 {
     settings_number(Config::default())
@@ -37,8 +36,7 @@ fn bad_number() -> usize
 }
 
 // Makes a reader over a document in the first slots of the state.
-#[unsafe(no_mangle)]
-pub extern "C" fn sporebasket_new(document: &[u8], settings: usize, state: &mut [usize]) -> usize
+pub fn sporebasket_new(document: &[u8], settings: usize, state: &mut [usize]) -> usize
     ensures { Opened document.now settings state.old result state.new }
 {
     if state.len() < STATE_SLOTS {
@@ -57,8 +55,7 @@ pub extern "C" fn sporebasket_new(document: &[u8], settings: usize, state: &mut 
 }
 
 // The next answer; the state that was lent is then the one after it.
-#[unsafe(no_mangle)]
-pub extern "C" fn sporebasket_read_event(
+pub fn sporebasket_read_event(
     document: &[u8],
     stack: &mut [usize],
     state: &mut [usize],
@@ -88,13 +85,7 @@ pub extern "C" fn sporebasket_read_event(
 }
 
 // Where the bytes of a span stand in the document.
-#[unsafe(no_mangle)]
-pub extern "C" fn sporebasket_content(
-    document: &[u8],
-    from: usize,
-    to: usize,
-    part: &mut [usize],
-) -> usize
+pub fn sporebasket_content(document: &[u8], from: usize, to: usize, part: &mut [usize]) -> usize
     ensures { Parted document.now from to part.old result part.new }
 {
     if part.len() < PART_SLOTS {

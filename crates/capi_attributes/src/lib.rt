@@ -20,8 +20,7 @@ const NAME_USED: usize = 24;
 
 // The attribute at the place `at` of the document, in the content `from` .. `to` whose name has `name` bytes. Writes its spans and where to go on, or the
 // place of the refusal.
-#[unsafe(no_mangle)]
-pub extern "C" fn sporebasket_attribute(
+pub fn sporebasket_attribute(
     document: &[u8],
     from: usize,
     to: usize,
@@ -40,8 +39,7 @@ pub extern "C" fn sporebasket_attribute(
 }
 
 // The same for the first attribute with the name `wanted`.
-#[unsafe(no_mangle)]
-pub extern "C" fn sporebasket_find_attribute(
+pub fn sporebasket_find_attribute(
     document: &[u8],
     from: usize,
     to: usize,

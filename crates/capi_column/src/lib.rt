@@ -14,8 +14,7 @@ use state::answer::{Error, Values};
 const COLUMN_SLOTS: usize = 10;
 
 // Fills the first slots of the column with the times of the document, and writes how many there are, their order and the refusal.
-#[unsafe(no_mangle)]
-pub extern "C" fn sporebasket_column(
+pub fn sporebasket_column(
     document: &[u8],
     stack: &mut [usize],
     column: &mut [usize],

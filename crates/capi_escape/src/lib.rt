@@ -15,8 +15,7 @@ const UNESCAPE_SLOTS: usize = 2;
 const BAD_STATE: usize = 17;
 
 // The character of a reference, whose content is given, from the place `at` of the galley on. Writes how many bytes it has.
-#[unsafe(no_mangle)]
-pub extern "C" fn sporebasket_reference(
+pub fn sporebasket_reference(
     content: &[u8],
     galley: &mut [u8],
     at: usize,
@@ -34,8 +33,7 @@ pub extern "C" fn sporebasket_reference(
 }
 
 // A text with each reference replaced by its character, from the place `at` of the galley on. Writes how many bytes it has, or the place of the refusal.
-#[unsafe(no_mangle)]
-pub extern "C" fn sporebasket_unescape(
+pub fn sporebasket_unescape(
     content: &[u8],
     galley: &mut [u8],
     at: usize,

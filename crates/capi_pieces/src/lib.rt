@@ -12,8 +12,7 @@ use pieces::feed::feed;
 const BAD_STATE: usize = 17;
 
 // Begins a scan of what has the number `state`.
-#[unsafe(no_mangle)]
-pub extern "C" fn sporebasket_scan(state: usize, scan: &mut [usize]) -> usize
+pub fn sporebasket_scan(state: usize, scan: &mut [usize]) -> usize
     ensures { Begun state scan.old result scan.new }
 {
     if scan.len() < SCAN_SLOTS {
@@ -27,8 +26,7 @@ pub extern "C" fn sporebasket_scan(state: usize, scan: &mut [usize]) -> usize
 }
 
 // Feeds the scan the next bytes.
-#[unsafe(no_mangle)]
-pub extern "C" fn sporebasket_feed(piece: &[u8], scan: &mut [usize]) -> usize
+pub fn sporebasket_feed(piece: &[u8], scan: &mut [usize]) -> usize
     ensures { Fed piece.now scan.old result scan.new }
 {
     let Held::Scan(held) = load(scan) else {

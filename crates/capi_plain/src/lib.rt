@@ -10,8 +10,7 @@ use plain::advance;
 const BAD_STATE: usize = 17;
 
 // The next answer; the state that was lent is then the one after it.
-#[unsafe(no_mangle)]
-pub extern "C" fn sporebasket_plain_read_event(
+pub fn sporebasket_plain_read_event(
     document: &[u8],
     stack: &mut [usize],
     state: &mut [usize],

@@ -24,8 +24,7 @@ const DEPTH: usize = 2;
 const BAD_STATE: usize = 17;
 
 // Writes the row of the name at a depth, from 1 on.
-#[unsafe(no_mangle)]
-pub extern "C" fn sporebasket_open_row(
+pub fn sporebasket_open_row(
     stack: &[usize],
     state: &[usize],
     depth: usize,
@@ -52,8 +51,7 @@ pub extern "C" fn sporebasket_open_row(
 }
 
 // Fills rows, the outermost name first, and writes how many were filled.
-#[unsafe(no_mangle)]
-pub extern "C" fn sporebasket_open_rows(
+pub fn sporebasket_open_rows(
     stack: &[usize],
     state: &[usize],
     slots: &mut [usize],
