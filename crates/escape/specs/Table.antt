@@ -66,7 +66,7 @@ references =
     ∷ (row (35 ∷ 48 ∷ 48 ∷ 48 ∷ 57 ∷ []) 4 0 (Text.Whole (9 ∷ [])))
     -- nothing
     ∷ (row ([]) 4 0 (not_written Fault.NotOfForm 0))
-    -- `Lt`
+    -- `LT`
     ∷ (row (76 ∷ 84 ∷ []) 4 0 (not_written Fault.NotOfForm 0))
     -- `nbsp`
     ∷ (row (110 ∷ 98 ∷ 115 ∷ 112 ∷ []) 4 0 (not_written Fault.NotOfForm 0))

@@ -1,5 +1,5 @@
 // What the programs share that read all of standard input: one document, or cases.
-ghost use Rattle.std.specs.Prelude.{◌≡◌, length, IfOk};
+ghost use Rattle.std.specs.Prelude.{◌≡◌, length, IfOk, OnErr};
 ghost use Rattle.lines.specs.Counts.{IsPrefixLen};
 
 use crate::line::say_numbers;
@@ -19,9 +19,10 @@ pub fn room() -> [u8; ROOM]
     [0; ROOM]
 }
 
-// Reads until buf is full or the input ends, and answers how many bytes it put at the start of buf.
+// Reads until buf is full or the input ends, and answers how many bytes it put at the start of buf. An error is the input's own; what was read before it stands at the start of buf, which is as long as it was.
 pub fn read_full<R: Read>(input: &mut R, buf: &mut [u8]) -> io::Result<usize>
-    ensures { IfOk result (λ n. IsPrefixLen n buf.new) }
+    ensures ok { IfOk result (λ n. IsPrefixLen n buf.new) }
+    ensures err { OnErr result (length buf.new ≡ length buf.old) }
 {
     let mut done = 0;
     while done < buf.len() {

@@ -1,13 +1,14 @@
 -- The last arm of a match, which has all cases that no other has: what the definition says of each of them. Assumes nothing.
 use Prim.Native.Nat.{ℕ}
 use mathlib.Core.Path.{◌≡◌, refl}
-use mathlib.Core.Bool.{false}
+use mathlib.Core.Bool.{true, false}
 use Rattle.state.specs.declared.place.Depth.{Depth}
 use Rattle.state.specs.declared.place.Span.{Span}
 use Rattle.state.specs.declared.run.Phase.{Phase}
 use Rattle.state.specs.declared.run.Reader.{Reader}
 use Rattle.plain.specs.declared.known.Part.{Part}
 use Rattle.plain.specs.declared.known.Known.{Known}
+use Rattle.plain.specs.Known.{next_part, opens}
 use Rattle.plain.specs.Told.{is_done, is_text, becomes, opening_of, in_tag, closer, no_closer, stop, read, unclosed_in, whole_of, closed_piece, behind, closed_in}
 
 -- ---- phases
@@ -29,6 +30,30 @@ not_done Phase.InsideEmpty w = refl
 not_done Phase.Done w = absurd (w refl)
 
 -- ---- parts
+
+pub stays : (p : Part) (b : ℕ) → (p ≡ Part.Nothing → ⊥) → (p ≡ Part.Opened → ⊥) → (p ≡ Part.Bang → ⊥) → p ≡ next_part p b
+stays Part.Nothing b n _ _ = absurd (n refl)
+stays Part.Text b _ _ _ = refl
+stays Part.Reference b _ _ _ = refl
+stays Part.Opened b _ n _ = absurd (n refl)
+stays Part.Bang b _ _ n = absurd (n refl)
+stays Part.Comment b _ _ _ = refl
+stays Part.CData b _ _ _ = refl
+stays Part.Instruction b _ _ _ = refl
+stays Part.Closing b _ _ _ = refl
+stays Part.Opening b _ _ _ = refl
+
+pub no_opener : (p : Part) (k b : ℕ) → (p ≡ Part.Comment → ⊥) → (p ≡ Part.CData → ⊥) → (p ≡ Part.Instruction → ⊥) → true ≡ opens p k b
+no_opener Part.Nothing k b _ _ _ = refl
+no_opener Part.Text k b _ _ _ = refl
+no_opener Part.Reference k b _ _ _ = refl
+no_opener Part.Opened k b _ _ _ = refl
+no_opener Part.Bang k b _ _ _ = refl
+no_opener Part.Comment k b n _ _ = absurd (n refl)
+no_opener Part.CData k b _ n _ = absurd (n refl)
+no_opener Part.Instruction k b _ _ n = absurd (n refl)
+no_opener Part.Closing k b _ _ _ = refl
+no_opener Part.Opening k b _ _ _ = refl
 
 pub in_tag_lem : (k : Known) (p : Part) → (p ≡ Part.Comment → ⊥) → (p ≡ Part.CData → ⊥) → (p ≡ Part.Instruction → ⊥) → closer k p ≡ in_tag k.quote
 in_tag_lem k Part.Nothing m d i = refl

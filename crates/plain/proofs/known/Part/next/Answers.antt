@@ -1,6 +1,7 @@
 -- `next` meets its contract. Assumes nothing.
 use borrow.Author.Tests.{eq-eqb, ne_eqb}
 use borrow.Author.Rules.{rules}
+use Rattle.plain.proofs.Parts.{stays}
 use Rattle.plain.proofs.known.Part.next.Goals as goal
 
 pub enum_told-1 : goal.enum_told-1
@@ -38,3 +39,6 @@ returns-then-b-eq91 c = simp (c.in-Bang.is, eq-eqb _ _ c.if-b-eq91.true)
 
 pub returns-else-b-eq91 : goal.returns-else-b-eq91
 returns-else-b-eq91 c = simp (c.in-Bang.is, ne_eqb _ _ c.if-b-eq91.false)
+
+pub returns-in_default : goal.returns-in_default
+returns-in_default c = stays c.args.self _ c.in_default.not-Nothing c.in_default.not-Opened c.in_default.not-Bang

@@ -1,5 +1,6 @@
 -- `opens` meets its contract. Assumes nothing.
 use borrow.Author.Rules.{rules}
+use Rattle.plain.proofs.Parts.{no_opener}
 use Rattle.plain.proofs.known.Part.opens.Goals as goal
 
 pub enum_told-1 : goal.enum_told-1
@@ -31,3 +32,6 @@ returns-in-CData c = simp c.in-CData.is c.goes-in-CData.ensures
 
 pub returns-in-Instruction : goal.returns-in-Instruction
 returns-in-Instruction c = simp (c.in-Instruction.is, ← c.goes-in-Instruction.ensures, ← c.is_whitespace.ensures)
+
+pub returns-in_default : goal.returns-in_default
+returns-in_default c = no_opener c.args.self _ _ c.in_default.not-Comment c.in_default.not-CData c.in_default.not-Instruction
